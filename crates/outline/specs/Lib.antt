@@ -1,0 +1,6 @@
+pub mod Held
+pub mod Moves
+pub mod Plain
+pub mod Refusals
+pub mod Rules
+pub mod Runs

@@ -1,0 +1,14 @@
+// One call on an outline, with its arguments.
+#[derive(Clone, Copy, PartialEq, Eq, Debug)]
+pub enum Call {
+    Open {
+        width: u16,
+        height: u16,
+        col: u16,
+        row: u16,
+    },
+    Extend {
+        direction: u8,
+    },
+    Retract,
+}
