@@ -15,7 +15,7 @@ use Rattle.std.specs.declared.option.Option.the-variants.{Some, None}
 use Rattle.outline.specs.declared.outline.Outline.{Outline}
 use Rattle.outline.specs.declared.point.Point.{Point}
 use Rattle.outline.specs.Held.{origin, Framed, Follows, Traced}
-use Rattle.outline.specs.Moves.{within, both, move, moved}
+use Rattle.outline.specs.Moves.{within, both, displaced, moved}
 use Rattle.outline.specs.Plain.{plain}
 use Rattle.outline.specs.Rules.{Rules}
 
@@ -30,17 +30,25 @@ within-below end (pos y) x e =
     (cases-bool (ltb y end))
 within-below end (negsuc y) x e = none-some x e
 
-both-parts : (c r : Option ℕ) (q : Point) → both c r ≡ Some q → (c ≡ Some (q .col)) × (r ≡ Some (q .row))
+pub within-is : (end : ℕ) (z : ℤ) (x : ℕ) → within end z ≡ Some x → z ≡ pos x
+within-is end (pos y) x e =
+    ⊎-elim
+    (λ t. let s : Some y ≡ Some x = (rw t at e) in ap pos (cc))
+    (λ f. none-some x (rw f at e))
+    (cases-bool (ltb y end))
+within-is end (negsuc y) x e = none-some x e
+
+pub both-parts : (c r : Option ℕ) (q : Point) → both c r ≡ Some q → (c ≡ Some (q .col)) × (r ≡ Some (q .row))
 both-parts (Some x) (Some y) q e =
     let p : record { col = x; row = y } ≡ q = cc in
     (ap (λ (t : Point). Some (t .col)) p, ap (λ (t : Point). Some (t .row)) p)
 both-parts (Some x) None q e = none-some q e
 both-parts None r q e = none-some q e
 
--- a moved point lies in the frame
-pub moved-inside : (w h : ℕ) (p : Point) (d : ℕ) (q : Point) → moved w h p d ≡ Some q → (q .col < w) × (q .row < h)
-moved-inside w h p d q e =
-    let parts = both-parts (within w (pos (p .col) +ℤ move d .0)) (within h (pos (p .row) +ℤ move d .1)) q e in
+-- a displaced point lies in the frame
+pub displaced-inside : (w h : ℕ) (p : Point) (x y : ℤ) (q : Point) → displaced w h p x y ≡ Some q → (q .col < w) × (q .row < h)
+displaced-inside w h p x y q e =
+    let parts = both-parts (within w (pos (p .col) +ℤ x)) (within h (pos (p .row) +ℤ y)) q e in
     (within-below w _ (q .col) (parts .0), within-below h _ (q .row) (parts .1))
 
 pub framed-push : (w h : ℕ) (ps : List Point) (q : Point) → Framed w h ps → (q .col < w) × (q .row < h) → Framed w h (ps ++ q ∷ [])

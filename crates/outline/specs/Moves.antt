@@ -28,6 +28,10 @@ both (Some x) (Some y) = Some (record { col = x; row = y })
 both (Some x) None = None
 both None y = None
 
--- A point moved by a direction, where that lies in a frame of a width and a height.
+-- A point with columns and rows added, where that lies in a frame of a width and a height.
+abbrev pub displaced : ℕ → ℕ → Point → ℤ → ℤ → Option Point
+displaced w h p x y = both (within w (pos (p .col) +ℤ x)) (within h (pos (p .row) +ℤ y))
+
+-- A point moved by a direction, where that lies in the frame.
 abbrev pub moved : ℕ → ℕ → Point → ℕ → Option Point
-moved w h p d = both (within w (pos (p .col) +ℤ move d .0)) (within h (pos (p .row) +ℤ move d .1))
+moved w h p d = displaced w h p (move d .0) (move d .1)

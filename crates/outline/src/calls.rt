@@ -2,7 +2,6 @@ ghost use mathlib.Core.Path.{_≡_};
 ghost use lib.ListN.{length};
 ghost use Rattle.outline.specs.Plain.{plain, new-plain, opened, extended, retracted, answer, left-by};
 ghost use Rattle.std.specs.shelf.Maps.{nth};
-use super::moves::moved;
 use super::outline::Outline;
 use super::point::Point;
 use super::points::Points;
@@ -55,7 +54,7 @@ impl Outline {
             return Err(Refusal::Full);
         }
         let last = self.points.last();
-        let Some(next) = moved(self.width, self.height, last, direction) else {
+        let Some(next) = last.moved(direction, self.width, self.height) else {
             return Err(Refusal::LeavesFrame);
         };
         self.points.push(next);

@@ -1,7 +1,7 @@
 ghost use Prim.Native.Nat.{_<_};
 ghost use mathlib.Core.Path.{_≡_};
 ghost use lib.IntN.{pos, _+ℤ_};
-ghost use Rattle.outline.specs.Moves.{move, moved as movedIn, within};
+ghost use Rattle.outline.specs.Moves.{displaced as displacedIn, moved as movedIn, within};
 use super::point::Point;
 
 // What directions 0 to 7 add to column and row. Extend and the coders take their moves from here.
@@ -28,17 +28,26 @@ fn shifted(at: u16, by: i16, end: u16) -> Option<u16>
     }
 }
 
-// The point moved by a direction, where that lies in the frame.
-pub(crate) fn moved(width: u16, height: u16, p: Point, d: u8) -> Option<Point>
-    requires { ⌜ d < 8 ⌝ }
-    ensures { λ r. ⌜ r ≡ movedIn width height p d ⌝ }
-{
-    let (cols, rows) = MOVES[d as usize];
-    let Some(col) = shifted(p.col, cols, width) else {
-        return None;
-    };
-    let Some(row) = shifted(p.row, rows, height) else {
-        return None;
-    };
-    Some(Point { col, row })
+impl Point {
+    // The point with columns and rows added, where that lies in a frame.
+    pub fn displaced(self, cols: i16, rows: i16, width: u16, height: u16) -> Option<Point>
+        ensures { λ r. ⌜ r ≡ displacedIn width height self cols rows ⌝ }
+    {
+        let Some(col) = shifted(self.col, cols, width) else {
+            return None;
+        };
+        let Some(row) = shifted(self.row, rows, height) else {
+            return None;
+        };
+        Some(Point { col, row })
+    }
+
+    // The point moved by a direction, where that lies in a frame.
+    pub(crate) fn moved(self, d: u8, width: u16, height: u16) -> Option<Point>
+        requires { ⌜ d < 8 ⌝ }
+        ensures { λ r. ⌜ r ≡ movedIn width height self d ⌝ }
+    {
+        let (cols, rows) = MOVES[d as usize];
+        self.displaced(cols, rows, width, height)
+    }
 }

@@ -1,13 +1,13 @@
-use Prim.Native.Nat.{_≤_}
+use Prim.Native.Nat.{_-_, _≤_}
 use mathlib.Core.List.{List, [], _∷_, _++_}
 use mathlib.Core.Path.{sym, subst, ap, _∙_}
 use Rattle.outline.specs.declared.point.Point.{Point}
-use Rattle.outline.specs.Moves.{moved}
+use Rattle.outline.specs.Moves.{move, moved}
 use native.Mathlib.Omega.{arith}
-use lib.ListN.{length}
+use lib.ListN.{length, getD}
 use Rattle.std.proofs.shelf.Lists.{length-push}
-use Rattle.outline.specs.Held.{held, Framed, Traced}
-use Rattle.outline.proofs.Kept.{framed-push, traced-push, moved-inside}
+use Rattle.outline.specs.Held.{held, origin, Framed, Traced}
+use Rattle.outline.proofs.Kept.{framed-push, traced-push, displaced-inside}
 use Rattle.outline.proofs.outline.Outline.extend.Needs as need
 
 pub ghost-self : need.ghost-self
@@ -30,7 +30,7 @@ ghost-self c =
             (
               to (λ xs. 1 ≤ length xs) (omega arith),
               (
-                to (Framed (o .width) (o .height)) (framed-push (o .width) (o .height) ps q (o .framed) (moved-inside (o .width) (o .height) _ (c .args .direction) q step)),
+                to (Framed (o .width) (o .height)) (framed-push (o .width) (o .height) ps q (o .framed) (displaced-inside (o .width) (o .height) (getD ps (length ps - 1) origin) (move (c .args .direction) .0) (move (c .args .direction) .1) q step)),
                 (to (Traced (o .width) (o .height)) (traced-push (o .width) (o .height) ps q (c .args .direction) (o .traced) (o .some) (omega arith) step), tt),
               ),
             ),
