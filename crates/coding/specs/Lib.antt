@@ -1,3 +1,5 @@
 pub mod Bits
+pub mod Directions
+pub mod Kinds
 pub mod Rows
 pub mod Tables

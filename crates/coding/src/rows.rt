@@ -1,7 +1,7 @@
 ghost use Prim.Native.Nat.{_-_, _^_};
 ghost use mathlib.Core.Path.{_≡_};
 ghost use lib.ListN.{length, take, drop};
-ghost use Rattle.coding.specs.Bits.{bits-of};
+ghost use Rattle.coding.specs.Bits.{bits-of, front-number};
 ghost use Rattle.coding.specs.Rows.{row-bits};
 ghost use Rattle.std.specs.shelf.Maps.{nth};
 use super::bit_row::BitRow;
@@ -45,5 +45,20 @@ impl<'a> BitRow<'a> {
         }
         let at = self.from + k;
         Some((self.bytes[at / 8] >> (7 - at % 8)) % 2 == 1)
+    }
+
+    // The first n bits as a number, or none where the row is shorter or the number wider than 32 bits.
+    pub fn number(self, n: u8) -> Option<u32>
+        ensures { λ r. ⌜ r ≡ front-number n (row-bits (self .entry)) ⌝ }
+    {
+        if n > 32 || n as usize > self.len {
+            return None;
+        }
+        let mut number: u32 = 0;
+        for k in 0..n {
+            let bit = self.bit(k as usize)?;
+            number = 2 * number + bit as u32;
+        }
+        Some(number)
     }
 }
