@@ -2,11 +2,12 @@
 use Prim.Native.Nat.{ℕ, zero, suc, _+_, _-_, _*_, _/_, _%_, _^_, _<_, _≤_}
 use mathlib.Core.Bool.{Bool, false}
 use mathlib.Core.List.{List, [], _∷_, _++_}
-use mathlib.Core.Path.{_≡_, refl, sym, ap, ap₂, subst, _∙_}
+use mathlib.Core.Path.{_≡_, refl, sym, ap, ap₂, subst, subst₂, _∙_}
 use native.Mathlib.Omega.{arith}
+use lib.Dec.{eqb}
 use lib.ListN.{length, getD, take, drop, replicate, length-take, length-drop}
 use Rattle.std.proofs.shelf.Lists.{getD-take, getD-drop, getD-past, take-all}
-use Rattle.std.proofs.shelf.Tests.{cases-lt}
+use Rattle.std.proofs.shelf.Tests.{cases-lt, cond-true, eq-eqb}
 use mathlib.Core.Logic.{⊎-elim}
 use Rattle.std.specs.Options.{mapped}
 use Rattle.std.specs.declared.option.Option.{Option}
@@ -24,7 +25,7 @@ use Rattle.records.specs.declared.fault.Fault.{Fault}
 use Rattle.records.specs.declared.fault.Fault.the-variants.{Head, Code, End, List as Full}
 use Rattle.records.specs.declared.reading.Reading.{Reading}
 use Rattle.records.specs.Bytes.{word, bytes-of, codes-from, codes-of, framed, record-of}
-use Rattle.records.specs.Reading.{word-at, Whole, start-at, edges-at, code-bits, Inside, Padding, Kinds, GoodHead, Spelled, Read-to, Accepted, Refused, Read-right}
+use Rattle.records.specs.Reading.{word-at, Whole, start-at, edges-at, code-bits, Inside, Padding, Kinds, only, GoodHead, Spelled, Read-to, Accepted, Refused, Read-right}
 use Rattle.records.specs.Steps.{All-spelled, Stopped, Body-read}
 use Rattle.records.proofs.Packing.{bytes-back}
 use Rattle.records.proofs.Spelling.{begins-rest}
@@ -73,6 +74,11 @@ small-part bs n m small k =
 padded-row : (codes row : List Bool) (bit : ℕ) → Begins codes row → length codes ≡ bit → Padding (drop bit row) → row ≡ codes ++ replicate (length (drop bit row)) false
 padded-row codes row bit b e p = begins-rest codes row b ∙ ap (λ n. codes ++ drop n row) e ∙ ap (λ r. codes ++ r) (p .1)
 
+-- what reading answers once the codes are read
+abbrev pub finished : List ℕ → Result ℕ Fault → Result Reading Fault
+finished bs (Ok n) = Ok (record { kind = word-at bs 2; bytes = 2 + word-at bs 0; vertices = n })
+finished bs (Err f) = Err f
+
 module _ (known : Kinds) (bs : List ℕ) (t : Table) (w : Whole bs) (small : Small bs) (kind : known (word-at bs 2) ≡ Some t) where
   spelled-bytes : (vs : List Point) (bit : ℕ) (s : Spelled t (code-bits bs) vs bit) → Padding (drop bit (code-bits bs)) → framed (word-at bs 2) (start-at bs) (edges-at bs) (s .codes) ≡ take (2 + word-at bs 0) bs
   spelled-bytes vs bit s p =
@@ -114,11 +120,7 @@ module _ (known : Kinds) (bs : List ℕ) (t : Table) (w : Whole bs) (small : Sma
       let few : getD bs 0 0 + 256 * getD bs 1 0 < 65536 = omega (arith, small 0, small 1) in
       take-all (2 ^ 64 - 1) (code-bits bs) (omega (arith, length-bits-of (body bs), length-take (word-at bs 0 - 7) (drop 9 bs)))
 
-  abbrev pub finished : Result ℕ Fault → Result Reading Fault
-  finished (Ok n) = Ok (record { kind = word-at bs 2; bytes = 2 + word-at bs 0; vertices = n })
-  finished (Err f) = Err f
-
-  right : (before after : List Point) (r : Result ℕ Fault) → Body-read t (code-bits bs) (start-at bs) (edges-at bs) before after r → Read-right known bs before after (finished r)
+  right : (before after : List Point) (r : Result ℕ Fault) → Body-read t (code-bits bs) (start-at bs) (edges-at bs) before after r → Read-right known bs before after (finished bs r)
   unfolding read-to
   right before after (Ok n) (vs, bit, s, pad, inside, count, filled) =
       (vs, accepted-from vs bit s pad, s .count ∙ sym count, filled ∙ ap (λ k. vs ++ drop k before) (count ∙ sym (s .count)))
@@ -133,5 +135,18 @@ module _ (known : Kinds) (bs : List ℕ) (t : Table) (w : Whole bs) (small : Sma
   right before after (Err Full) (vs, bit, s, pad, inside, few, same) =
       ((word-at bs 2, vs, 2 + word-at bs 0, accepted-from vs bit s pad, omega (arith, s .count)), same)
 
-  pub read-right : (before after : List Point) (r : Result ℕ Fault) → Body-read t (take (2 ^ 64 - 1) (code-bits bs)) (start-at bs) (edges-at bs) before after r → Read-right known bs before after (finished r)
-  read-right before after r b = right before after r (subst (λ row. Body-read t row (start-at bs) (edges-at bs) before after r) row-whole b)
+  pub read-right : (start : Point) (edges : ℕ) (codes : List ℕ) (before after : List Point) (r : Result ℕ Fault) → start ≡ start-at bs → edges ≡ edges-at bs → codes ≡ body bs
+      → Body-read t (take (2 ^ 64 - 1) (bits-of codes)) start edges before after r → Read-right known bs before after (finished bs r)
+  read-right start edges codes before after r p e c b =
+      let row : take (2 ^ 64 - 1) (bits-of codes) ≡ code-bits bs = ap (λ xs. take (2 ^ 64 - 1) (bits-of xs)) c ∙ row-whole in
+      let at : Body-read t (code-bits bs) start edges before after r = subst (λ x. Body-read t x start edges before after r) row b in
+      right before after r (subst₂ (λ x y. Body-read t (code-bits bs) x y before after r) p e at)
+
+  -- the answer as the reader puts it together
+  pub read-ok : (kind′ : ℕ) (codes : List ℕ) (before after : List Point) (n : ℕ) → kind′ ≡ word-at bs 2 → codes ≡ body bs → Read-right known bs before after (finished bs (Ok n)) → Read-right known bs before after (Ok (record { kind = kind′; bytes = length codes + 9; vertices = n }))
+  read-ok kind′ codes before after n k c b =
+      let long : 2 + word-at bs 0 ≡ length codes + 9 = omega (arith, ap length c, length-take (word-at bs 0 - 7) (drop 9 bs), length-drop 9 bs) in
+      subst₂ (λ x y. Read-right known bs before after (Ok (record { kind = x; bytes = y; vertices = n }))) (sym k) long b
+
+pub only-kind : (kind k : ℕ) (t : Table) → k ≡ kind → only kind t k ≡ Some t
+only-kind kind k t e = cond-true (eqb k kind) (Some t) None (eq-eqb k kind e)

@@ -1,8 +1,9 @@
 -- What bytes are read as: the record that they begin with, or the first fault with its place.
 use Prim.Native.Nat.{ℕ, suc, _+_, _-_, _*_, _<_, _≤_}
-use mathlib.Core.Bool.{Bool, false}
+use mathlib.Core.Bool.{Bool, false, cond}
 use mathlib.Core.List.{List, [], _∷_, _++_}
 use mathlib.Core.Path.{_≡_}
+use lib.Dec.{eqb}
 use lib.IntN.{ℤ}
 use lib.ListN.{length, getD, take, drop, replicate}
 use Rattle.std.specs.declared.option.Option.{Option}
@@ -56,6 +57,10 @@ Padding bits = (length bits < 8) × (bits ≡ replicate (length bits) false)
 -- Which kinds a reader knows, each by its table of codes.
 abbrev pub Kinds : Type 0
 Kinds = ℕ → Option Table
+
+-- One kind alone.
+abbrev pub only : ℕ → Table → Kinds
+only kind t k = cond (eqb k kind) (Some t) None
 
 -- The head is good: whole, of a known kind, with its start inside.
 pub record GoodHead (known : Kinds) (bs : List ℕ) (t : Table) : Type 0 where
