@@ -48,8 +48,8 @@ equal-above a b c e =
 
 pub total-order : Total-order
 total-order = record {
-      one-way = above-one-way;
-      equal = λ a b one two. omega (arith, ltb-false (b .top * a .bottom) (a .top * b .bottom) one, ltb-false (a .top * b .bottom) (b .top * a .bottom) two);
-      onward = not-above-through;
-      by-value = equal-above;
-    }
+  one-way = above-one-way;
+  equal = λ a b one two. omega (arith, ltb-false (b .top * a .bottom) (a .top * b .bottom) one, ltb-false (a .top * b .bottom) (b .top * a .bottom) two);
+  onward = not-above-through;
+  by-value = equal-above;
+}
