@@ -5,6 +5,7 @@ mod moves;
 mod outline;
 mod point;
 mod points;
+mod polygon;
 mod refusal;
 mod runs;
 mod table;

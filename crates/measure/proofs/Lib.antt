@@ -1,0 +1,4 @@
+pub mod Bounds
+pub mod Lawful
+pub mod Numbers
+pub mod Order
