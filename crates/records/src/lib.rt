@@ -3,6 +3,7 @@ mod body;
 mod edges;
 mod fault;
 mod head;
+mod numbers;
 mod read;
 mod reading;
 
