@@ -15,3 +15,6 @@ pub use moves::MOVES;
 pub use outline::Outline;
 pub use point::Point;
 pub use refusal::Refusal;
+
+#[cfg(test)]
+mod tests;
