@@ -1,11 +1,20 @@
 // How far the points of an outline stray from the edges of a polygon.
+mod deviations;
 mod fraction;
 mod fractions;
 mod line;
 mod meter;
 mod offset;
 mod pace;
+#[cfg(test)]
+mod tests;
 
+pub use deviations::deviation;
+pub use deviations::deviation_is_widest;
+pub use deviations::deviation_within;
+pub use deviations::is_within;
+pub use deviations::polygon_deviation;
+pub use deviations::polygon_is_widest;
 pub use fraction::Fraction;
 pub use line::Line;
 pub use line::LineMeasure;

@@ -15,3 +15,5 @@ pub use moves::MOVES;
 pub use outline::Outline;
 pub use point::Point;
 pub use refusal::Refusal;
+pub use refusal::RefusalDebug;
+pub use refusal::RefusalPartialEq;
