@@ -1,6 +1,6 @@
 ghost use mathlib.Core.Path.{_≡_};
 ghost use lib.ListN.{length};
-ghost use Rattle.measure.specs.Deviation.{edge-deviation, kept-within, polygon-deviation, within};
+ghost use Rattle.measure.specs.Deviation.{edge-deviation, polygon-deviation};
 ghost use Rattle.measure.specs.Widest.{Deviation-is-widest, Polygon-is-widest};
 ghost use Rattle.outline.specs.Plain.{plain};
 ghost use Rattle.outline.specs.Polygon.{Polygon};
@@ -23,42 +23,6 @@ pub fn deviation<M: Measure>(measure: &M, outline: &Outline, i: usize, j: usize)
         widest = widest.widened(measure.strays(outline, i, k, j));
     }
     Some(widest)
-}
-
-// The deviation of edge i, j where it is within a tolerance. It measures no further than the first point past that.
-pub fn deviation_within<M: Measure>(
-    measure: &M,
-    outline: &Outline,
-    i: usize,
-    j: usize,
-    tolerance: Fraction,
-) -> Option<Fraction>
-    ensures { λ r. ⌜ r ≡ kept-within tolerance (edge-deviation (M·Measure .strays (now (measure .entry))) (plain (now (outline .entry)) .points) i j) ⌝ }
-{
-    if i >= j || j >= outline.len() {
-        return None;
-    }
-    let mut widest = Fraction::zero();
-    for k in i + 1..j {
-        widest = widest.widened(measure.strays(outline, i, k, j));
-        if widest.is_above(tolerance) {
-            return None;
-        }
-    }
-    Some(widest)
-}
-
-// Whether i, j is an edge of the outline whose deviation is not above a tolerance.
-pub fn is_within<M: Measure>(
-    measure: &M,
-    outline: &Outline,
-    i: usize,
-    j: usize,
-    tolerance: Fraction,
-) -> bool
-    ensures { λ r. ⌜ r ≡ within tolerance (edge-deviation (M·Measure .strays (now (measure .entry))) (plain (now (outline .entry)) .points) i j) ⌝ }
-{
-    deviation_within(measure, outline, i, j, tolerance).is_some()
 }
 
 // The deviation of a polygon of the outline.

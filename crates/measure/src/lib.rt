@@ -8,11 +8,10 @@ mod offset;
 mod pace;
 #[cfg(test)]
 mod tests;
+mod tolerance;
 
 pub use deviations::deviation;
 pub use deviations::deviation_is_widest;
-pub use deviations::deviation_within;
-pub use deviations::is_within;
 pub use deviations::polygon_deviation;
 pub use deviations::polygon_is_widest;
 pub use fraction::Fraction;
@@ -21,3 +20,5 @@ pub use line::LineMeasure;
 pub use meter::Measure;
 pub use pace::Pace;
 pub use pace::PaceMeasure;
+pub use tolerance::deviation_within;
+pub use tolerance::is_within;

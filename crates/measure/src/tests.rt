@@ -1,12 +1,12 @@
 use super::deviations::deviation;
-use super::deviations::deviation_within;
-use super::deviations::is_within;
 use super::deviations::polygon_deviation;
 use super::fraction::Fraction;
 use super::line::Line;
 use super::line::LineMeasure;
 use super::pace::Pace;
 use super::pace::PaceMeasure;
+use super::tolerance::deviation_within;
+use super::tolerance::is_within;
 use outline::Outline;
 use outline::Refusal;
 use outline::RefusalDebug;

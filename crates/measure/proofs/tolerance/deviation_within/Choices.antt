@@ -4,7 +4,7 @@ use mathlib.Core.Path.{_≡_}
 use Rattle.outline.specs.Plain.{plain}
 use Rattle.measure.specs.Deviation.{widest}
 use Rattle.measure.specs.Fractions.{above}
-use Rattle.measure.proofs.deviations.deviation_within.Given as given
+use Rattle.measure.proofs.tolerance.deviation_within.Given as given
 
 abbrev pub Inv-loop-k : given.InvT-loop-k
 Inv-loop-k g l =
