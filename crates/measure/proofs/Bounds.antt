@@ -111,3 +111,13 @@ points-close o ps e i j hi hj =
 -- an outline has at most 256 points
 pub points-few : (o : Outline) (ps : List Point) → ps ≡ plain o .points → length ps ≤ 256
 points-few o ps e = let n = ap length e in omega (arith, rules-of o .count .1)
+
+-- parts and offsets stay small as they pass through their bits
+pub lag-small : (n m : ℕ) (a b a′ b′ : ℤ) → n ≤ 255 → m ≤ 255 → a ≡ a′ → b ≡ b′ → natAbs a′ ≤ 255 → natAbs b′ ≤ 255
+    → (natAbs (toZ w32 n) ≤ 255) × ((natAbs (toZ w32 (ofZ w32 a)) ≤ 255) × ((natAbs (toZ w32 m) ≤ 255) × (natAbs (toZ w32 (ofZ w32 b)) ≤ 255)))
+lag-small n m a b a′ b′ hn hm ea eb ha hb =
+    let one = ap natAbs (toZ-pos w32 n (omega arith)) in
+    let two = ap natAbs (ap (λ z. toZ w32 (ofZ w32 z)) ea ∙ back a′ (omega arith)) in
+    let three = ap natAbs (toZ-pos w32 m (omega arith)) in
+    let four = ap natAbs (ap (λ z. toZ w32 (ofZ w32 z)) eb ∙ back b′ (omega arith)) in
+    (omega (arith, one), (omega (arith, two), (omega (arith, three), omega (arith, four))))

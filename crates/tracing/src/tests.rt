@@ -63,7 +63,7 @@ fn refuses_damaged_codes() -> Result<(), Fail> {
     let more = [9, 0, 4, 0, 5, 0, 5, 0, 6, 0x03, 0x60];
     check(number(&more) == 9 && is(place(&more), 6, 15))?;
     // West from column 0.
-    let west = [8, 0, 4, 0, 0, 0, 5, 0, 2, 0x10];
+    let west = [8, 0, 4, 0, 0, 0, 5, 0, 2, 0x50];
     check(number(&west) == 8 && is(place(&west), 2, 3))?;
     // A set bit after the last code, and a whole byte too many.
     let set = [9, 0, 4, 0, 5, 0, 5, 0, 4, 0x03, 0x61];

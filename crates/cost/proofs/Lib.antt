@@ -1,0 +1,4 @@
+pub mod BitsLaws
+pub mod PriceLaws
+pub mod TwoPartLaws
+pub mod Values

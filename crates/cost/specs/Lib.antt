@@ -1,0 +1,4 @@
+pub mod Bits
+pub mod Cost
+pub mod Prices
+pub mod TwoPart

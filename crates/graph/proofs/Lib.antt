@@ -1,0 +1,9 @@
+pub mod Chains
+pub mod Counting
+pub mod Filling
+pub mod Least
+pub mod Offers
+pub mod Options
+pub mod Reached
+pub mod Routes
+pub mod Tables
