@@ -1,6 +1,9 @@
+pub mod Axes
 pub mod BitLists
 pub mod Chains
 pub mod Fields
+pub mod Flats
 pub mod Legs
+pub mod Runs
 pub mod Straight
 pub mod Views
