@@ -4,6 +4,7 @@ pub mod Chains
 pub mod Fields
 pub mod Flats
 pub mod Legs
+pub mod Pairs
 pub mod Runs
 pub mod Straight
 pub mod Views
