@@ -4,7 +4,7 @@ use mathlib.Core.Bool.{Bool, true, false, cond}
 use mathlib.Core.List.{List, [], _∷_, _++_}
 use mathlib.Core.Logic.{⊎-elim}
 use mathlib.Core.Path.{_≡_, refl, sym, ap, ap₂, _∙_}
-use native.Mathlib.Nat.{mul-assoc, pow-suc, mod-eq-of-lt, add-mul-div-right}
+use native.Mathlib.Nat.{add-mul, mul-assoc, pow-suc, mod-eq-of-lt, add-mul-div-right}
 use native.Mathlib.Omega.{arith}
 use lib.Dec.{eqb}
 use lib.ListN.{length, getD}
@@ -109,3 +109,23 @@ low-bits-value (b ∷ bs) =
 -- numbers of n bits with the same bits are the same
 pub low-bits-one : (n x y : ℕ) → x < 2 ^ n → y < 2 ^ n → low-bits n x ≡ low-bits n y → x ≡ y
 low-bits-one n x y p q e = sym (value-low n x p) ∙ ap value e ∙ value-low n y q
+
+pub value-append : (xs ys : List Bool) → value (xs ++ ys) ≡ value xs * 2 ^ length ys + value ys
+value-append [] ys = omega arith
+value-append (false ∷ xs) ys = omega (arith, value-append xs ys)
+value-append (true ∷ xs) ys =
+    let wide : 2 ^ length (xs ++ ys) ≡ 2 ^ length xs * 2 ^ length ys = ap (λ k. 2 ^ k) (length-append xs ys) ∙ pow-add 2 (length xs) (length ys) in
+    omega (arith, wide, value-append xs ys, add-mul (2 ^ length xs) (value xs) (2 ^ length ys))
+
+-- the bits of two numbers after one another
+pub value-two : (n m a b : ℕ) → a < 2 ^ n → b < 2 ^ m → value (low-bits n a ++ low-bits m b) ≡ a * 2 ^ m + b
+value-two n m a b p q =
+    value-append (low-bits n a) (low-bits m b)
+    ∙ ap₂ _+_ (ap₂ _*_ (value-low n a p) (ap (λ k. 2 ^ k) (length-low-bits m b))) (value-low m b q)
+
+pub length-two : (n m a b : ℕ) → length (low-bits n a ++ low-bits m b) ≡ n + m
+length-two n m a b = length-append (low-bits n a) (low-bits m b) ∙ ap₂ _+_ (length-low-bits n a) (length-low-bits m b)
+
+pub low-bits-two : (n m a b : ℕ) → a < 2 ^ n → b < 2 ^ m → low-bits n a ++ low-bits m b ≡ low-bits (n + m) (a * 2 ^ m + b)
+low-bits-two n m a b p q =
+    sym (low-bits-value (low-bits n a ++ low-bits m b)) ∙ ap₂ low-bits (length-two n m a b) (value-two n m a b p q)

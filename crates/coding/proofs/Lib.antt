@@ -1,6 +1,10 @@
+pub mod Axes
 pub mod BitLists
 pub mod Chains
 pub mod Fields
+pub mod Flats
 pub mod Legs
+pub mod Pairs
+pub mod Runs
 pub mod Straight
 pub mod Views

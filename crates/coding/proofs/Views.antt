@@ -1,11 +1,11 @@
 -- A part of a list: its length, an element of it, and what is left of it.
 use Prim.Native.Nat.{ℕ, _+_, _-_, _<_, _≤_, min}
-use mathlib.Core.List.{List}
+use mathlib.Core.List.{List, _++_}
 use mathlib.Core.Logic.{⊎-elim}
 use mathlib.Core.Path.{_≡_, refl, sym, ap, _∙_}
 use native.Mathlib.Omega.{arith}
 use lib.ListN.{length, getD, take, drop, length-take}
-use Rattle.std.proofs.shelf.Lists.{getD-take, getD-drop, length-take-le, length-drop, take-all, drop-all, drop-drop, drop-take}
+use Rattle.std.proofs.shelf.Lists.{getD-take, getD-drop, length-take-le, length-drop, take-all, drop-all, drop-drop, drop-take, take-at, drop-at}
 use Rattle.std.proofs.shelf.Maps.{nth-getD, nth-past}
 use Rattle.std.proofs.shelf.Tests.{cases-lt}
 use Rattle.std.specs.declared.option.Option.the-variants.{Some, None}
@@ -42,3 +42,7 @@ take-min n end xs least =
     (λ low. take-all n xs (omega arith) ∙ sym (take-all end xs (omega arith)))
     (λ high. ap (λ j. take j xs) (omega arith))
     (cases-lt (length xs) end)
+
+pub append-parts : {X : Type 0} (n : ℕ) (xs ys us vs : List X) → length xs ≡ n → length us ≡ n → xs ++ ys ≡ us ++ vs → (xs ≡ us) × (ys ≡ vs)
+append-parts n xs ys us vs p q e =
+    (sym (take-at xs ys n p) ∙ ap (take n) e ∙ take-at us vs n q, sym (drop-at xs ys n p) ∙ ap (drop n) e ∙ drop-at us vs n q)
