@@ -1,0 +1,4 @@
+// What the edges of an outline weigh.
+mod weigher;
+
+pub use weigher::Weigher;
