@@ -1,10 +1,9 @@
 -- Fractions made of numbers.
 use Prim.Native.Nat.{ℕ, _^_, _<_, _≤_}
-use mathlib.Core.Path.{_≡_, refl, sym, ap, subst₂, _∙_}
+use mathlib.Core.Path.{_≡_, ap, subst₂}
 use native.Mathlib.Bridge.{le-prop}
 use native.Mathlib.Decide.{decLt, decLe}
-use Rattle.std.specs.declared.option.Option.{Option}
-use Rattle.std.specs.declared.option.Option.the-variants.{Some, None}
+use Rattle.std.specs.declared.option.Option.the-variants.{Some}
 use Rattle.measure.specs.declared.fraction.Fraction.{Fraction}
 use Rattle.measure.specs.Fractions.{checked, fraction}
 
@@ -28,16 +27,6 @@ checked-is x (no s) m f = absurd (s (x .small))
 -- the numbers of a fraction make that fraction
 pub fraction-is : (x : Fraction) → Some x ≡ fraction (x .top) (x .bottom)
 fraction-is x = checked-is x (decLt (x .top) (2 ^ 40)) (decLe 1 (x .bottom)) (decLe (x .bottom) (2 ^ 20))
-
-checked-none : (t b : ℕ) (s : Dec (t < 2 ^ 40)) (m : Dec (1 ≤ b)) (f : Dec (b ≤ 2 ^ 20)) → ((t < 2 ^ 40) × (1 ≤ b) × (b ≤ 2 ^ 20) → ⊥) → None ≡ checked t b s m f
-checked-none t b (yes s) (yes m) (yes f) out = absurd (out (s, m, f))
-checked-none t b (yes s) (yes m) (no f) out = refl
-checked-none t b (yes s) (no m) f out = refl
-checked-none t b (no s) m f out = refl
-
--- numbers out of bounds make none
-pub fraction-none : (t b : ℕ) → ((t < 2 ^ 40) × (1 ≤ b) × (b ≤ 2 ^ 20) → ⊥) → None ≡ fraction t b
-fraction-none t b out = checked-none t b (decLt t (2 ^ 40)) (decLe 1 b) (decLe b (2 ^ 20)) out
 
 -- numbers in bounds make one
 pub fraction-some : (t b : ℕ) (s : t < 2 ^ 40) (m : 1 ≤ b) (f : b ≤ 2 ^ 20) → Some (record { top = t; bottom = b; small = s; some = m; few = f }) ≡ fraction t b

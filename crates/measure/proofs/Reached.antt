@@ -1,6 +1,6 @@
 -- A deviation is 0/1 or one of the fractions that it is taken from, and none of them is above it.
 use Prim.Native.Nat.{ℕ, zero, suc, _+_, _-_, _<_, _≤_}
-use mathlib.Core.Bool.{true, false, cond, _&&_}
+use mathlib.Core.Bool.{false, _&&_}
 use mathlib.Core.List.{List, [], _∷_}
 use mathlib.Core.Logic.{_⊎_, inl, inr, ⊎-elim}
 use mathlib.Core.Path.{_≡_, refl, sym, ap, subst, _∙_}
@@ -10,10 +10,8 @@ use lib.ListN.{length, getD}
 use Rattle.std.proofs.shelf.Tests.{cases-bool, cases-lt, ltb-true, and-parts, cond-both, cond-true, cond-false}
 use Rattle.std.specs.declared.option.Option.{Option}
 use Rattle.std.specs.declared.option.Option.the-variants.{Some, None}
-use Rattle.std.specs.Iters.{folded}
-use Rattle.outline.specs.Polygon.{edges}
 use Rattle.measure.specs.declared.fraction.Fraction.{Fraction}
-use Rattle.measure.specs.Deviation.{widest, deviation, polygon-deviation}
+use Rattle.measure.specs.Deviation.{widest, deviation}
 use Rattle.measure.specs.Fractions.{zero as nought, above, wider, widened}
 use Rattle.measure.specs.Widest.{Widest, Deviation-is-widest, Polygon-is-widest}
 use Rattle.measure.proofs.Order.{not-above-through}

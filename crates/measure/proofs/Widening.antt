@@ -1,8 +1,8 @@
 -- The widest of fractions, one point further.
 use Prim.Native.Nat.{ℕ, zero, suc, _+_, _-_, _*_, _<_, _≤_}
-use mathlib.Core.Bool.{Bool, true, false, not, cond, _&&_}
-use mathlib.Core.List.{List, [], _∷_}
-use mathlib.Core.Logic.{_⊎_, inl, inr, ⊎-elim}
+use mathlib.Core.Bool.{true, false, not, cond, _&&_}
+use mathlib.Core.List.{List, _∷_}
+use mathlib.Core.Logic.{⊎-elim}
 use mathlib.Core.Path.{_≡_, refl, sym, ap, subst, _∙_}
 use native.Mathlib.Nat.{zero-mul}
 use native.Mathlib.Omega.{arith}
@@ -13,9 +13,9 @@ use Rattle.std.proofs.shelf.Tests.{cases-bool, cases-lt, both-ways, lt-ltb, le-
 use Rattle.std.specs.declared.option.Option.{Option}
 use Rattle.std.specs.declared.option.Option.the-variants.{Some, None}
 use Rattle.std.specs.Iters.{folded}
-use Rattle.outline.specs.Polygon.{Polygon, edges}
+use Rattle.outline.specs.Polygon.{edges}
 use Rattle.measure.specs.declared.fraction.Fraction.{Fraction}
-use Rattle.measure.specs.Deviation.{widest, deviation, within, polygon-deviation}
+use Rattle.measure.specs.Deviation.{widest, deviation, within}
 use Rattle.measure.specs.Fractions.{zero as nought, above, wider, widened}
 use Rattle.measure.proofs.Order.{above-one-way, not-above-through}
 
@@ -38,6 +38,11 @@ wider-grows a b = cond-both (above b a) b a (λ x. above a x ≡ false) (above-o
 
 pub wider-covers : (a b : Fraction) → above b (wider a b) ≡ false
 wider-covers a b = cond-both (above b a) b a (λ x. above b x ≡ false) (λ _. not-above-itself b) (λ e. e)
+
+-- widening by one fraction keeps the order
+pub wider-keeps : (a b w : Fraction) → above a b ≡ false → above (wider a w) (wider b w) ≡ false
+wider-keeps a b w h =
+    cond-both (above w a) w a (λ x. above x (wider b w) ≡ false) (λ _. wider-covers b w) (λ _. not-above-through a b (wider b w) h (wider-grows b w))
 
 pub widened-grows : (a : Fraction) (b : Option Fraction) → above a (widened a b) ≡ false
 widened-grows a (Some b) = wider-grows a b
@@ -87,11 +92,7 @@ module _ (strays : ℕ → ℕ → ℕ → Option Fraction) (n i j : ℕ) (rises
 abbrev pub onward : (ℕ → ℕ → Option Fraction) → Fraction → ℕ → List ℕ → Fraction
 onward of-edge a i vs = folded (λ old e. widened old (of-edge (e .0) (e .1))) a (edges (i ∷ vs))
 
-pub polygon-start : (of-edge : ℕ → ℕ → Option Fraction) (n : ℕ) (vs : List ℕ) → of-edge 0 0 ≡ None → Polygon n vs → onward of-edge nought 0 vs ≡ polygon-deviation of-edge vs
-polygon-start of-edge n [] e p = let some = p .some in absurd (omega arith)
-polygon-start of-edge n (v ∷ vs) e p =
-    ap (λ o. folded (λ old x. widened old (of-edge (x .0) (x .1))) (widened nought o) (edges (v ∷ vs))) (ap (of-edge 0) (p .first) ∙ e)
-
+-- a turn of the loop: s is what edge i, j gives, and b the widest with it
 pub polygon-more : (of-edge : ℕ → ℕ → Option Fraction) (vs : List ℕ) (k i j : ℕ) (a b whole : Fraction) (s : Option Fraction) → k < length vs → j ≡ getD vs k 0 → s ≡ of-edge i j → b ≡ widened a s
     → onward of-edge a i (drop k vs) ≡ whole → onward of-edge b j (drop (k + 1) vs) ≡ whole
 polygon-more of-edge vs k i j a b whole s l at here next e =

@@ -1,7 +1,6 @@
 -- The measures line and pace.
 use Prim.Native.Nat.{ℕ, _+_, _-_, _*_}
 use mathlib.Core.Bool.{Bool, cond, _&&_}
-use mathlib.Core.List.{List}
 use lib.Dec.{ltb, eqb}
 use lib.IntN.{ℤ, pos, _-ℤ_, _*ℤ_, natAbs}
 use lib.ListN.{length, getD}

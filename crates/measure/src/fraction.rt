@@ -1,7 +1,7 @@
 ghost use Prim.Native.Nat.{_^_, _<_, _≤_};
 
 // A squared distance in square pels. It is never reduced: 2/1 and 16/8 are two answers of one value.
-#[derive(Clone, Copy)]
+#[derive(Clone, Copy, PartialEq, Eq, Debug)]
 pub struct Fraction {
     pub(crate) top: u64,
     pub(crate) bottom: u32,

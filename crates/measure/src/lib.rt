@@ -15,6 +15,8 @@ pub use deviations::deviation_is_widest;
 pub use deviations::polygon_deviation;
 pub use deviations::polygon_is_widest;
 pub use fraction::Fraction;
+pub use fraction::FractionDebug;
+pub use fraction::FractionPartialEq;
 pub use line::Line;
 pub use line::LineMeasure;
 pub use meter::Measure;

@@ -1,4 +1,4 @@
-use mathlib.Core.Path.{sym, _∙_}
+use mathlib.Core.Path.{sym}
 use native.Mathlib.Omega.{arith}
 use Rattle.measure.proofs.Bounds.{line-in-bounds}
 use Rattle.measure.proofs.line.line_from.Needs as need
