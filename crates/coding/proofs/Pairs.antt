@@ -149,6 +149,9 @@ module _ (t u : Table) (first : Codes t) (second : Codes u) (row : List Bool) wh
   side-codes true = second
   side-codes false = first
 
+  pub side-length : (m : Bool) (x y : ℤ) (n : ℕ) (rest : List Bool) → Reads (side m t u) rest (Some (x, y, n)) → n ≤ 32
+  side-length m x y n rest read = omega (arith, read .3, side-codes m .sized x y (read .0) (read .1) .1)
+
   -- the displacement that the side reads is written by the other side, or by none
   pub pair-other : (m : Bool) (x y : ℤ) (n : ℕ) → Some m ≡ nth row 0 → Reads (side m t u) (drop 1 row) (Some (x, y, n)) → ((k : ℕ) → Some (m, k) ≡ marker (pair t u x y) → ⊥) → Reads (pair t u) row None
   pair-other m x y n e read other x′ y′ code is begins =

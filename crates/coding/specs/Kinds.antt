@@ -30,7 +30,7 @@ axis-code d l = cond (eqb (d % 2) 0 && leb l 64) (Some (low-bits 2 (d / 2) ++ lo
 abbrev pub class : ℕ → ℕ
 class l = cond (ltb l 2) 0 (cond (ltb l 4) 1 (cond (ltb l 8) 2 3))
 
--- Run codes take 1 to 15 steps: three bits of direction, two bits of the length's class, and as many bits as the class says of the rest.
+-- Run codes take 1 to 15 steps: three bits of direction, two bits of the length's class c, and c bits of the length less 2 ^ c.
 abbrev pub run-code : ℕ → ℕ → Option (List Bool)
 run-code d l = cond (leb l 15) (Some (low-bits 3 d ++ low-bits 2 (class l) ++ low-bits (class l) (l - 2 ^ class l))) None
 

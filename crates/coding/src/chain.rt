@@ -5,7 +5,7 @@ use super::directions::direction;
 use super::directions::displacement;
 
 // One step of a direction, in three bits.
-#[derive(Clone, Copy, PartialEq, Eq, Debug)]
+#[derive(Clone, Copy)]
 pub struct Chain;
 
 pub impl Coder for Chain as ChainCoder {

@@ -10,7 +10,7 @@ use super::bit_row::BitRow;
 use super::coder::Coder;
 
 // Both numbers of a displacement in eleven bits of two's complement each.
-#[derive(Clone, Copy, PartialEq, Eq, Debug)]
+#[derive(Clone, Copy)]
 pub struct Flat;
 
 // Whether a number is one of -1,023 to 1,023.
@@ -32,14 +32,17 @@ fn field(z: i16) -> u32
     }
 }
 
-// The number of eleven bits; those of -1,024 have none.
+// The bits of -1,024, which is no number of a displacement.
+const LOWEST: u32 = 1024;
+
+// The number of eleven bits, where a displacement can have it.
 fn signed(bits: u32) -> Option<i16>
     requires { ⌜ bits < 2048 ⌝ }
     ensures { λ r. ⌜ BySome r ((z : ℤ) → isNear z ≡ true → twos 11 z ≡ low-bits 11 bits → ⊥) (λ z. (isNear z ≡ true) × (twos 11 z ≡ low-bits 11 bits)) ⌝ }
 {
-    if bits < 1024 {
+    if bits < LOWEST {
         Some(bits as i16)
-    } else if bits == 1024 {
+    } else if bits == LOWEST {
         None
     } else {
         Some(bits as i16 - 2048)

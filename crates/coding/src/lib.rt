@@ -21,8 +21,14 @@ pub use directions::direction;
 pub use flat::Flat;
 pub use flat::FlatCoder;
 pub use kind::Kind;
+pub use kind::KindDebug;
+pub use kind::KindEq;
+pub use kind::KindPartialEq;
 pub use kinds::KindCoder;
 pub use pair::Pair;
 pub use pair::PairCoder;
 pub use run::Run;
 pub use run::RunCoder;
+
+#[cfg(test)]
+mod tests;

@@ -10,19 +10,22 @@ use super::bit_row::BitRow;
 use super::coder::Coder;
 
 // Two coders behind a bit that says which: 0 and the first's code or 1 and the second's, whichever is shorter.
-#[derive(Clone, Copy, PartialEq, Eq, Debug)]
+#[derive(Clone, Copy)]
 pub struct Pair<A, B> {
     pub first: A,
     pub second: B,
 }
+
+// The most bits that a code has.
+const LONGEST: u8 = 32;
 
 // The price of a code that leaves room for one bit more.
 fn roomy(price: Option<u8>) -> Option<u8>
     ensures { λ r. ⌜ ((a : Maybe (List Bool)) → price ≡ price-of a → r ≡ price-of (roomyOf a)) ⌝ }
 {
     match price {
-        Some(n) => if n <= 31 { Some(n) } else { None },
-        None => None,
+        Some(n) if n < LONGEST => Some(n),
+        _ => None,
     }
 }
 
@@ -31,12 +34,8 @@ fn chosen(first: Option<u8>, second: Option<u8>) -> Option<(bool, u8)>
     ensures { λ r. ⌜ ((a b : Maybe (List Bool)) → first ≡ price-of a → second ≡ price-of b → r ≡ markerOf (either (roomyOf a) (roomyOf b))) ⌝ }
 {
     match (roomy(first), roomy(second)) {
-        (Some(a), Some(b)) => if a <= b {
-            Some((false, a))
-        } else {
-            Some((true, b))
-        },
-        (Some(a), None) => Some((false, a)),
+        (Some(a), Some(b)) if b < a => Some((true, b)),
+        (Some(a), _) => Some((false, a)),
         (None, Some(b)) => Some((true, b)),
         (None, None) => None,
     }
@@ -89,10 +88,7 @@ pub impl<A: Coder, B: Coder> Coder for Pair<A, B> as PairCoder {
         let second = row.bit(0)?;
         let (dx, dy, n) = self.read_of(second, row.skip(1))?;
         let (used, _) = self.marker(dx, dy)?;
-        if used == second {
-            Some((dx, dy, n + 1))
-        } else {
-            None
-        }
+        let found = (dx, dy, n + 1);
+        if used == second { Some(found) } else { None }
     }
 }

@@ -6,6 +6,9 @@ ghost use Rattle.coding.specs.Rows.{row-bits};
 ghost use Rattle.std.specs.shelf.Maps.{nth};
 use super::bit_row::BitRow;
 
+// The most bits that are read as a number.
+const WIDEST: u8 = 32;
+
 impl<'a> BitRow<'a> {
     // All bits of some bytes, as far as their number fits.
     pub fn new(bytes: &'a [u8]) -> BitRow<'a>
@@ -51,7 +54,7 @@ impl<'a> BitRow<'a> {
     pub fn number(self, n: u8) -> Option<u32>
         ensures { λ r. ⌜ r ≡ front-number n (row-bits (self .entry)) ⌝ }
     {
-        if n > 32 || n as usize > self.len {
+        if n > WIDEST || n as usize > self.len {
             return None;
         }
         let mut number: u32 = 0;

@@ -7,8 +7,11 @@ use super::directions::direction;
 use super::directions::displacement;
 
 // 1 to 15 steps of a direction: three bits for the direction, two for the class of the length, and the length's bits below its highest.
-#[derive(Clone, Copy, PartialEq, Eq, Debug)]
+#[derive(Clone, Copy)]
 pub struct Run;
+
+// The most steps of a run.
+const LONGEST: u16 = 15;
 
 // How many bits a length has below its highest.
 fn class(length: u16) -> u8
@@ -31,7 +34,7 @@ pub impl Coder for Run as RunCoder {
 
     fn price(&self, dx: i16, dy: i16) -> Option<u8> {
         let (_, length) = direction(dx, dy)?;
-        if length <= 15 {
+        if length <= LONGEST {
             Some(5 + class(length))
         } else {
             None
@@ -40,7 +43,7 @@ pub impl Coder for Run as RunCoder {
 
     fn code(&self, dx: i16, dy: i16) -> Option<(u32, u8)> {
         let (d, length) = direction(dx, dy)?;
-        if length > 15 {
+        if length > LONGEST {
             return None;
         }
         let below = class(length);

@@ -4,8 +4,8 @@ use Rattle.coding.specs.Bits.{low-bits}
 use Rattle.coding.proofs.Flats.{no-lowest, signed-high}
 use Rattle.coding.proofs.flat.signed.Needs as need
 
-pub returns-then-bits-eq1024 : need.returns-then-bits-eq1024
-returns-then-bits-eq1024 c z t e = no-lowest z t (e ∙ ap (low-bits 11) (c .if-bits-eq1024 .taken))
+pub returns-then-bits-eq-LOWEST : need.returns-then-bits-eq-LOWEST
+returns-then-bits-eq-LOWEST c z t e = no-lowest z t (e ∙ ap (low-bits 11) (c .if-bits-eq-LOWEST .taken))
 
-pub returns-else-bits-eq1024 : need.returns-else-bits-eq1024
-returns-else-bits-eq1024 c = signed-high (c .args .bits) (omega arith) (omega arith)
+pub returns-else-bits-eq-LOWEST : need.returns-else-bits-eq-LOWEST
+returns-else-bits-eq-LOWEST c = signed-high (c .args .bits) (omega arith) (omega arith)

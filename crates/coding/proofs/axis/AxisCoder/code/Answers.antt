@@ -7,8 +7,8 @@ use Rattle.coding.proofs.BitLists.{value-two}
 use Rattle.coding.proofs.Legs.{leg-small, leg-code}
 use Rattle.coding.proofs.axis.AxisCoder.code.Needs as need
 
-pub returns-then-length-le64 : need.returns-then-length-le64
-returns-then-length-le64 c =
+pub returns-then-length-le-LONGEST : need.returns-then-length-le-LONGEST
+returns-then-length-le-LONGEST c =
     let d = c .in-Continue-d .d in
     let l = c .in-Continue-d .length in
     let told = c .in-Continue-d .ensures tt .value in

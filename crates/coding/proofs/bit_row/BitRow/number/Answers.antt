@@ -12,14 +12,14 @@ use Rattle.coding.specs.Bits.{value}
 use Rattle.coding.specs.Rows.{row-bits}
 use Rattle.coding.proofs.Fields.{row-length, none-some, number-none, number-some, value-more, value-bound}
 use Rattle.coding.proofs.bit_row.BitRow.number.Needs as need
-use Rattle.coding.proofs.bit_row.BitRow.number.Needs.{then-n-gt32·by·then-n-gt32, then-n-gt32·by·else-n-gt32·then-n-self}
+use Rattle.coding.proofs.bit_row.BitRow.number.Needs.{then-n-gt-WIDEST·by·then-n-gt-WIDEST, then-n-gt-WIDEST·by·else-n-gt-WIDEST·then-n-self}
 
-pub returns-then-n-gt32 : need.returns-then-n-gt32
-returns-then-n-gt32 c =
+pub returns-then-n-gt-WIDEST : need.returns-then-n-gt-WIDEST
+returns-then-n-gt-WIDEST c =
     let row = row-bits (c .args .self) in
-    elim (c .then-n-gt32 .came) [
-      | then-n-gt32·by·then-n-gt32 w ↦ sym (number-none (c .args .n) row (inl (w .if-n-gt32 .taken)))
-      | then-n-gt32·by·else-n-gt32·then-n-self w ↦ sym (number-none (c .args .n) row (inr (omega (arith, row-length (c .args .self), w .if-n-self .taken))))
+    elim (c .then-n-gt-WIDEST .came) [
+      | then-n-gt-WIDEST·by·then-n-gt-WIDEST w ↦ sym (number-none (c .args .n) row (inl (w .if-n-gt-WIDEST .taken)))
+      | then-n-gt-WIDEST·by·else-n-gt-WIDEST·then-n-self w ↦ sym (number-none (c .args .n) row (inr (omega (arith, row-length (c .args .self), w .if-n-self .taken))))
     ]
 
 pub returns-in-Break-bit : need.returns-in-Break-bit
