@@ -89,7 +89,12 @@ fn there_is_room_for_256_points() -> Result<(), Fail> {
 fn a_run_answers_each_call() -> Result<(), Fail> {
     let calls = [
         Call::Extend { direction: 0 },
-        Call::Open { width: 4, height: 4, col: 1, row: 1 },
+        Call::Open {
+            width: 4,
+            height: 4,
+            col: 1,
+            row: 1,
+        },
         Call::Extend { direction: 6 },
         Call::Retract,
         Call::Retract,

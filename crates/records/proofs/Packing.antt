@@ -42,11 +42,11 @@ packed-back (x ∷ xs) bits pad small e few =
     let long : 8 ≤ length (bits ++ replicate 8 false) = simp (length-append, length-replicate) (omega arith) in
     let whole : 8 ≤ length (bits ++ replicate pad false) = simp (length-append, length-replicate) (omega arith) in
     let front : take 8 (bits ++ replicate 8 false) ≡ low-bits 8 x =
-        front-same 8 (bits ++ replicate 8 false) (bits ++ replicate pad false) long whole (λ k. zeros-after bits 8 k ∙ sym (zeros-after bits pad k))
-        ∙ ap (take 8) (sym e) ∙ take-at (low-bits 8 x) (bits-of xs) 8 (length-low-bits 8 x) in
+    front-same 8 (bits ++ replicate 8 false) (bits ++ replicate pad false) long whole (λ k. zeros-after bits 8 k ∙ sym (zeros-after bits pad k))
+    ∙ ap (take 8) (sym e) ∙ take-at (low-bits 8 x) (bits-of xs) 8 (length-low-bits 8 x) in
     let first : value (take 8 (bits ++ replicate 8 false)) ≡ x = ap value front ∙ value-low 8 x (small 0) in
     let rest : bits-of xs ≡ drop 8 bits ++ replicate (pad - (8 - length bits)) false =
-        sym (drop-at (low-bits 8 x) (bits-of xs) 8 (length-low-bits 8 x)) ∙ ap (drop 8) e ∙ drop-zeros 8 bits pad in
+    sym (drop-at (low-bits 8 x) (bits-of xs) 8 (length-low-bits 8 x)) ∙ ap (drop 8) e ∙ drop-zeros 8 bits pad in
     ap₂ (λ a b. a ∷ b) first (packed-back xs (drop 8 bits) (pad - (8 - length bits)) (λ k. small (suc k)) rest (omega arith))
 
 pub length-packed : (n : ℕ) (bits : List Bool) → length (packed n bits) ≡ n

@@ -7,6 +7,10 @@ mod numbers;
 mod read;
 mod reading;
 
-pub use fault::{BitFault, CoderFault, Fault, HeadFault};
-pub use read::{read_chain, read_kind};
+pub use fault::BitFault;
+pub use fault::CoderFault;
+pub use fault::Fault;
+pub use fault::HeadFault;
+pub use read::read_chain;
+pub use read::read_kind;
 pub use reading::Reading;

@@ -1,7 +1,10 @@
 ghost use mathlib.Core.Path.{_≡_};
 ghost use Rattle.records.specs.Faults.{refusal-of, byte-of};
+use super::fault::BitFault;
+use super::fault::CoderFault;
+use super::fault::Fault;
+use super::fault::HeadFault;
 use outline::Refusal;
-use super::fault::{BitFault, CoderFault, Fault, HeadFault};
 
 impl HeadFault {
     // The byte at which the fault is told.
@@ -27,9 +30,18 @@ impl Fault {
             Fault::Head(HeadFault::Kind) => Refusal::Kind,
             Fault::Head(HeadFault::Column) => Refusal::PointOutside,
             Fault::Head(HeadFault::Row) => Refusal::PointOutside,
-            Fault::Code { fault: CoderFault::NoCode, .. } => Refusal::NoCode,
-            Fault::Code { fault: CoderFault::Outside, .. } => Refusal::PointOutside,
-            Fault::End { fault: BitFault::Trailing, .. } => Refusal::Trailing,
+            Fault::Code {
+                fault: CoderFault::NoCode,
+                ..
+            } => Refusal::NoCode,
+            Fault::Code {
+                fault: CoderFault::Outside,
+                ..
+            } => Refusal::PointOutside,
+            Fault::End {
+                fault: BitFault::Trailing,
+                ..
+            } => Refusal::Trailing,
             Fault::List => Refusal::ListShort,
         }
     }

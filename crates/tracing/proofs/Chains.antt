@@ -73,11 +73,11 @@ rules-from (u ∷ vs) t bytes same e few inside =
     let codes = mapped-some (framed 4 u (length vs)) (codes-from t u vs) bytes e in
     let coded = subst (λ s. codes-from s u vs ≡ Some (codes .0)) same (codes .1) in
     record {
-        wide = (omega arith, omega arith);
-        tall = (omega arith, omega arith);
-        count = (omega arith, few);
-        framed = inside;
-        traced = traced-from u vs (codes .0) coded inside;
+      wide = (omega arith, omega arith);
+      tall = (omega arith, omega arith);
+      count = (omega arith, few);
+      framed = inside;
+      traced = traced-from u vs (codes .0) coded inside;
     }
 
 -- only kind 4 is known

@@ -35,11 +35,11 @@ pub extended-room : (ps : List Point) (k d : ℕ) (x : Unit {0}) → k ≤ lengt
 extended-room ps k d x l small e =
     ⊎-elim (λ room. room)
     (λ (full : 256 ≤ k).
-        let n : length (take k ps) ≡ k = length-take-le k ps l in
-        let refused : extended (in-largest (take k ps)) d ≡ Err Full =
-            cond-false (ltb 7 d) _ _ (le-ltb 7 d (omega arith)) ∙ cond-true (leb 256 (length (take k ps))) _ _ (le-leb 256 (length (take k ps)) (omega arith)) in
-        let said : Err Full ≡ Ok x = sym (ap answer refused) ∙ e in
-        let z : _≡_ {A = ℕ} 0 1 = cc in absurd (omega arith))
+    let n : length (take k ps) ≡ k = length-take-le k ps l in
+    let refused : extended (in-largest (take k ps)) d ≡ Err Full =
+    cond-false (ltb 7 d) _ _ (le-ltb 7 d (omega arith)) ∙ cond-true (leb 256 (length (take k ps))) _ _ (le-leb 256 (length (take k ps)) (omega arith)) in
+    let said : Err Full ≡ Ok x = sym (ap answer refused) ∙ e in
+    let z : _≡_ {A = ℕ} 0 1 = cc in absurd (omega arith))
     (cases-lt k 256)
 
 -- where no direction leads on, the points are no outline

@@ -1,7 +1,9 @@
 ghost use Rattle.tracing.specs.Tracing.{Traced-right};
-use outline::{Outline, Point};
-use records::{Fault, read_chain};
 use super::steps::trace;
+use outline::Outline;
+use outline::Point;
+use records::Fault;
+use records::read_chain;
 
 // The outline of a chain record. Later bytes are ignored.
 pub fn read_outline(bytes: &[u8]) -> Result<Outline, Fault>

@@ -7,7 +7,9 @@ ghost use Rattle.outline.specs.Moves.{moved};
 ghost use Rattle.outline.specs.Plain.{plain};
 ghost use Rattle.outline.specs.Rules.{Rules};
 ghost use Rattle.tracing.specs.Tracing.{in-largest};
-use outline::{MOVES, Outline, Point};
+use outline::MOVES;
+use outline::Outline;
+use outline::Point;
 
 // The longest side of a frame.
 const SIDE: u16 = 1024;

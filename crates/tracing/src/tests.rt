@@ -1,5 +1,7 @@
 use super::read::read_outline;
-use records::{CoderFault, Fault, HeadFault};
+use records::CoderFault;
+use records::Fault;
+use records::HeadFault;
 use std::test::*;
 
 const L: [u8; 11] = [9, 0, 4, 0, 5, 0, 5, 0, 4, 0x03, 0x60];
@@ -53,7 +55,9 @@ fn refuses_damaged_heads() -> Result<(), Fail> {
     check(number(&L[0..10]) == 6)?;
     check(number(&[7, 0, 3, 0, 5, 0, 5, 0, 0]) == 7 && byte(&[7, 0, 3, 0, 0, 4, 5, 0, 0]) == 2)?;
     check(number(&[7, 0, 4, 0, 0, 4, 0, 4, 0]) == 8 && byte(&[7, 0, 4, 0, 0, 4, 0, 4, 0]) == 4)?;
-    check(number(&[7, 0, 4, 0, 255, 3, 0, 4, 0]) == 8 && byte(&[7, 0, 4, 0, 255, 3, 0, 4, 0]) == 6)?;
+    check(
+        number(&[7, 0, 4, 0, 255, 3, 0, 4, 0]) == 8 && byte(&[7, 0, 4, 0, 255, 3, 0, 4, 0]) == 6,
+    )?;
     check(number(&[7, 0, 4, 0, 255, 3, 255, 3, 0]) == 0)
 }
 
