@@ -98,13 +98,13 @@ module _ (known : Kinds) (bs : List ℕ) (t : Table) (w : Whole bs) (small : Sma
       let bytes = spelled-bytes vs bit (s .spelled) p in
       let long : length (framed (word-at bs 2) (start-at bs) (edges-at bs) (s .spelled .codes)) ≡ 2 + word-at bs 0 = ap length bytes ∙ omega (arith, length-take (2 + word-at bs 0) bs) in
       record {
-          table = t;
-          known-kind = kind;
-          bytes = framed (word-at bs 2) (start-at bs) (edges-at bs) (s .spelled .codes);
-          written = record-written vs bit s;
-          begins = ap (λ n. take n bs) long ∙ sym bytes;
-          takes = long;
-          inside = s .spelled .inside;
+        table = t;
+        known-kind = kind;
+        bytes = framed (word-at bs 2) (start-at bs) (edges-at bs) (s .spelled .codes);
+        written = record-written vs bit s;
+        begins = ap (λ n. take n bs) long ∙ sym bytes;
+        takes = long;
+        inside = s .spelled .inside;
       }
 
   read-to : (edge : ℕ) (vs : List Point) (bit : ℕ) → Inside (start-at bs) → getD vs 0 origin ≡ start-at bs → length vs ≡ edge → Spelled t (code-bits bs) vs bit → Read-to known bs edge bit

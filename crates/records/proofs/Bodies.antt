@@ -61,9 +61,9 @@ pub all-spelled : (t : Table) (row row′ : List Bool) (start : Point) (edges : 
 all-spelled t row row′ start edges at bit same room s =
     subst (λ r. All-spelled t r start edges (take (edges + 1) at) bit) same
     (record {
-        first = getD-take (edges + 1) at 0 origin (omega arith) ∙ s .1;
-        count = simp length-take (omega arith);
-        spelled = s .0;
+      first = getD-take (edges + 1) at 0 origin (omega arith) ∙ s .1;
+      count = simp length-take (omega arith);
+      spelled = s .0;
     })
 
 module _ (t : Table) (row row′ : List Bool) (start : Point) (edges : ℕ) (at before : List Point) (same : row ≡ row′) (inside : Inside start) where

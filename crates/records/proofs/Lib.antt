@@ -1,6 +1,9 @@
 pub mod Acceptance
 pub mod Bodies
+pub mod Exact
 pub mod Packing
+pub mod Parsing
 pub mod Parts
 pub mod Spelling
 pub mod Traversal
+pub mod Unique

@@ -35,11 +35,11 @@ pub spelled-push : (t : Table) (row : List Bool) (u : Point) (vs : List Point) (
     → Spelled t row (u ∷ vs) bit → Leads t (drop bit row) (last-of u vs) v n → Spelled t row ((u ∷ vs) ++ v ∷ []) (bit + n)
 spelled-push t row u vs bit v n s l =
     record {
-        codes = s .codes ++ l .code;
-        coded = codes-push t u vs v (s .codes) (l .code) (s .coded) (l .coded);
-        begins = begins-more (s .codes) (l .code) row (s .begins) (ap (λ b. take (length (l .code)) (drop b row)) (s .ends) ∙ l .begins);
-        ends = length-append (s .codes) (l .code) ∙ ap₂ (λ a b. a + b) (s .ends) (sym (l .long));
-        inside = inside-push (u ∷ vs) v (s .inside) (l .inside);
+      codes = s .codes ++ l .code;
+      coded = codes-push t u vs v (s .codes) (l .code) (s .coded) (l .coded);
+      begins = begins-more (s .codes) (l .code) row (s .begins) (ap (λ b. take (length (l .code)) (drop b row)) (s .ends) ∙ l .begins);
+      ends = length-append (s .codes) (l .code) ∙ ap₂ (λ a b. a + b) (s .ends) (sym (l .long));
+      inside = inside-push (u ∷ vs) v (s .inside) (l .inside);
     }
 
 spelled-more′ : (t : Table) (row : List Bool) (vs : List Point) (e bit : ℕ) (v : Point) (n : ℕ) → length vs ≡ suc e
@@ -76,12 +76,12 @@ stopped-at t row row′ at start edges e bit r k below room first s same step er
     let here : getD at e origin ≡ getD (take (e + 1) at) (e + 1 - 1) origin = sym (getD-take (e + 1) at e origin (omega arith)) ∙ ap (λ i. getD (take (e + 1) at) i origin) (omega arith) in
     let wrong : Wrong-code t row′ (getD at e origin) k = subst (Stepped t row′ (getD at e origin)) err step in
     record {
-        within = omega arith;
-        vertices = take (e + 1) at;
-        first = getD-take (e + 1) at 0 origin (omega arith) ∙ first;
-        count = simp length-take (omega arith);
-        spelled = s;
-        wrong = subst (λ p. Wrong-code t (drop bit row) p k) here (subst (λ x. Wrong-code t x (getD at e origin) k) same wrong);
+      within = omega arith;
+      vertices = take (e + 1) at;
+      first = getD-take (e + 1) at 0 origin (omega arith) ∙ first;
+      count = simp length-take (omega arith);
+      spelled = s;
+      wrong = subst (λ p. Wrong-code t (drop bit row) p k) here (subst (λ x. Wrong-code t x (getD at e origin) k) same wrong);
     }
 
 pub traversed-err : (t : Table) (row : List Bool) (start : Point) (edges : ℕ) (at : List Point) (k : CoderFault) (edge bit : ℕ) (r : Result ℕ Fault) → r ≡ Err (Code k edge bit) → Stopped t row start edges k edge bit → Traversed t row start edges at r

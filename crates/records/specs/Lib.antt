@@ -1,3 +1,4 @@
 pub mod Bytes
+pub mod Laws
 pub mod Reading
 pub mod Steps

@@ -6,11 +6,15 @@ ghost use Rattle.coding.specs.Rows.{row-bits};
 ghost use Rattle.records.specs.Reading.{Padding};
 ghost use Rattle.records.specs.Steps.{ended, Body-read};
 ghost use Rattle.std.specs.Results.{Cases};
-use coding::{BitRow, Coder};
-use outline::Point;
-use super::edges::{read_edges, SIDE};
-use super::fault::{BitFault, Fault, HeadFault};
+use super::edges::SIDE;
+use super::edges::read_edges;
+use super::fault::BitFault;
+use super::fault::Fault;
+use super::fault::HeadFault;
 use super::head::Head;
+use coding::BitRow;
+use coding::Coder;
+use outline::Point;
 
 // After the last code there are only zero bits, too few for a byte.
 fn padding(row: BitRow<'_>) -> Result<(), BitFault>
@@ -39,7 +43,11 @@ fn at_end<T>(r: Result<T, BitFault>, edge: u8, bit: usize) -> Result<T, Fault>
 }
 
 // Reads the start and the codes; the list is written only once nothing can refuse any more.
-pub(crate) fn read_body<C: Coder>(coder: &C, head: Head<'_>, list: &mut [Point]) -> Result<usize, Fault>
+pub(crate) fn read_body<C: Coder>(
+    coder: &C,
+    head: Head<'_>,
+    list: &mut [Point],
+) -> Result<usize, Fault>
     ensures { λ r. ⌜ Body-read (C·Coder .table (now (coder .entry))) (take (2 ^ 64 - 1) (bits-of (now (head .entry .codes)))) (head .entry .start) (head .entry .edges) (now (list .entry)) (now (list .exit)) r ⌝ }
 {
     if head.start.col >= SIDE {

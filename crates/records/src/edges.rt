@@ -5,9 +5,11 @@ ghost use Rattle.outline.specs.Held.{origin};
 ghost use Rattle.coding.specs.Rows.{row-bits};
 ghost use Rattle.records.specs.Reading.{Inside};
 ghost use Rattle.records.specs.Steps.{Stepped, placed, Traversed};
-use coding::{BitRow, Coder};
+use super::fault::CoderFault;
+use super::fault::Fault;
+use coding::BitRow;
+use coding::Coder;
 use outline::Point;
-use super::fault::{CoderFault, Fault};
 
 // Columns and rows of vertices are below this.
 pub(crate) const SIDE: u16 = 1024;
@@ -36,7 +38,12 @@ fn at_edge<T>(r: Result<T, CoderFault>, edge: u8, bit: usize) -> Result<T, Fault
 }
 
 // Fills in the vertices after the start, and answers how many bits their codes take.
-pub(crate) fn read_edges<C: Coder>(coder: &C, row: BitRow<'_>, edges: u8, at: &mut [Point; 256]) -> Result<usize, Fault>
+pub(crate) fn read_edges<C: Coder>(
+    coder: &C,
+    row: BitRow<'_>,
+    edges: u8,
+    at: &mut [Point; 256],
+) -> Result<usize, Fault>
     requires { ⌜ Inside (getD (now at) 0 origin) ⌝ }
     ensures { λ r. ⌜ Traversed (C·Coder .table (now (coder .entry))) (row-bits (row .entry)) (getD (now (at .entry)) 0 origin) edges (now (at .exit)) r ⌝ }
 {

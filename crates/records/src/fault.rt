@@ -24,7 +24,15 @@ pub enum BitFault {
 #[derive(Clone, Copy, PartialEq, Eq, Debug)]
 pub enum Fault {
     Head(HeadFault),
-    Code { fault: CoderFault, edge: u8, bit: usize },
-    End { fault: BitFault, edge: u8, bit: usize },
+    Code {
+        fault: CoderFault,
+        edge: u8,
+        bit: usize,
+    },
+    End {
+        fault: BitFault,
+        edge: u8,
+        bit: usize,
+    },
     List,
 }

@@ -4,8 +4,8 @@ ghost use lib.ListN.{take, drop};
 ghost use Rattle.std.specs.Results.{Cases};
 ghost use Rattle.records.specs.declared.fault.HeadFault.the-variants.{Short};
 ghost use Rattle.records.specs.Reading.{Whole, word-at, start-at, edges-at};
-use outline::Point;
 use super::fault::HeadFault;
+use outline::Point;
 
 // The head of a record taken apart, and the bytes of its codes.
 #[derive(Clone, Copy)]

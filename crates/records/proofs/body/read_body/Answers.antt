@@ -35,11 +35,15 @@ returns-then-list-vertices g c =
     let bit = c .in-Continue-bit .bit in
     let few : h .edges < 256 = search needs in
     let at = c .read-edges .last .at in
-    let ok = from-ended (h .edges) bit (c .padding .result) (c .in-Continue-at-end .field-0) (sym (c .at-end .ensures) ∙ c .in-Continue-at-end .was tt) in
-    (take (h .edges + 1) at, bit,
-        all-spelled t _ _ (h .start) (h .edges) at bit (c .new-row .ensures) (omega arith) (c .in-Continue-bit .ensures tt),
-        padded (c .padding .result) (c .in-Continue-at-end .field-0) _ _ (c .skip .ensures ∙ ap (drop bit) (c .new-row .ensures)) ok (c .padding .ensures),
-        (omega arith, omega arith), omega arith, refl)
+    let ok = from-ended (h .edges) bit (c .padding .result) (c .in-Continue-at-end .field-0) (sym (c .at-end .ensures) ∙ c .in-Continue-at-end .was tt) in (
+      take (h .edges + 1) at,
+      bit,
+      all-spelled t _ _ (h .start) (h .edges) at bit (c .new-row .ensures) (omega arith) (c .in-Continue-bit .ensures tt),
+      padded (c .padding .result) (c .in-Continue-at-end .field-0) _ _ (c .skip .ensures ∙ ap (drop bit) (c .new-row .ensures)) ok (c .padding .ensures),
+      (omega arith, omega arith),
+      omega arith,
+      refl,
+    )
 
 pub returns : need.returns
 returns g c =
@@ -48,9 +52,12 @@ returns g c =
     let bit = c .in-Continue-bit .bit in
     let few : h .edges < 256 = search needs in
     let at = c .read-edges .last .at in
-    let ok = from-ended (h .edges) bit (c .padding .result) (c .in-Continue-at-end .field-0) (sym (c .at-end .ensures) ∙ c .in-Continue-at-end .was tt) in
-    (take (h .edges + 1) at, bit,
-        all-spelled t _ _ (h .start) (h .edges) at bit (c .new-row .ensures) (omega arith) (c .in-Continue-bit .ensures tt),
-        padded (c .padding .result) (c .in-Continue-at-end .field-0) _ _ (c .skip .ensures ∙ ap (drop bit) (c .new-row .ensures)) ok (c .padding .ensures),
-        (omega arith, omega arith), omega arith,
-        ap₂ (λ a b. a ++ b) (c .copy-from-slice .ensures .after ∙ ap (λ n. take n at) (omega arith)) (post-front (h .edges + 1) (c .args .list .now)))
+    let ok = from-ended (h .edges) bit (c .padding .result) (c .in-Continue-at-end .field-0) (sym (c .at-end .ensures) ∙ c .in-Continue-at-end .was tt) in (
+      take (h .edges + 1) at,
+      bit,
+      all-spelled t _ _ (h .start) (h .edges) at bit (c .new-row .ensures) (omega arith) (c .in-Continue-bit .ensures tt),
+      padded (c .padding .result) (c .in-Continue-at-end .field-0) _ _ (c .skip .ensures ∙ ap (drop bit) (c .new-row .ensures)) ok (c .padding .ensures),
+      (omega arith, omega arith),
+      omega arith,
+      ap₂ (λ a b. a ++ b) (c .copy-from-slice .ensures .after ∙ ap (λ n. take n at) (omega arith)) (post-front (h .edges + 1) (c .args .list .now)),
+    )

@@ -21,9 +21,9 @@ returns g c =
     let to : displaced 1024 1024 from dx dy ≡ Some v = simp toZ-ofZ at (sym (c .displaced .ensures) ∙ c .in-Some-displaced .is) in
     let by = displaced-by 1024 1024 from dx dy v to in
     record {
-        code = found .0;
-        coded = ap₂ (g .C·Coder .table (c .args .coder .now)) (by .0) (by .1) ∙ found .1;
-        begins = found .2;
-        long = found .3;
-        inside = displaced-inside 1024 1024 from dx dy v to;
+      code = found .0;
+      coded = ap₂ (g .C·Coder .table (c .args .coder .now)) (by .0) (by .1) ∙ found .1;
+      begins = found .2;
+      long = found .3;
+      inside = displaced-inside 1024 1024 from dx dy v to;
     }

@@ -24,11 +24,12 @@ loop-e-again g c =
     let inv = c .loop-e .inv in
     let ok = from-placed (e + 1) bit (c .next-vertex .result) (to, n) (sym (c .at-edge .ensures) ∙ c .in-Continue-to .was tt) in
     let leads = stepped-to t _ _ _ (c .next-vertex .result) to n (c .skip .ensures) (c .next-vertex .ensures) ok in
-    let sized = g .C·Coder·met .codes (c .args .coder .now) .sized _ _ (leads .code) (leads .coded) in
-    (length-set at (e + 1) to ∙ inv .0,
-        getD-set-other at (e + 1) 0 to _ (omega arith) ∙ inv .1,
-        omega (arith, sized .1, leads .long),
-        spelled-more t row at e bit to n (omega arith) (inv .3) leads)
+    let sized = g .C·Coder·met .codes (c .args .coder .now) .sized _ _ (leads .code) (leads .coded) in (
+      length-set at (e + 1) to ∙ inv .0,
+      getD-set-other at (e + 1) 0 to _ (omega arith) ∙ inv .1,
+      omega (arith, sized .1, leads .long),
+      spelled-more t row at e bit to n (omega arith) (inv .3) leads,
+    )
 
 pub returns-in-Break-to : need.returns-in-Break-to
 returns-in-Break-to g c =
