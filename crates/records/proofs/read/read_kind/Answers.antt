@@ -7,6 +7,7 @@ use Rattle.std.proofs.shelf.Results.{err-from-errBy}
 use Rattle.std.specs.declared.result.Result.the-variants.{Ok, Err}
 use Rattle.records.specs.Reading.{only, Read-right, word-at}
 use Rattle.records.specs.declared.fault.Fault.the-variants.{Head}
+use Rattle.records.specs.declared.fault.HeadFault.the-variants.{Kind}
 use Rattle.records.proofs.Acceptance.{read-right, read-ok, only-kind}
 use Rattle.records.proofs.Exact.{read-exact, only-codes}
 use Rattle.records.proofs.read.read_kind.Needs as need
@@ -17,6 +18,14 @@ returns-in-Err g c =
     let k = c .args .kind in
     let list = c .args .list .now in
     let right : Read-right (only k t) (c .args .bytes .now) list list (Err (Head (c .in-Err .fault))) = search needs in
+    record { right = right; exact = read-exact (only k t) (only-codes k t (g .C·Coder·met .codes (c .args .coder .now))) (c .args .bytes .now) list list _ refl right }
+
+pub returns-then-head-kind : need.returns-then-head-kind
+returns-then-head-kind g c =
+    let t = g .C·Coder .table (c .args .coder .now) in
+    let k = c .args .kind in
+    let list = c .args .list .now in
+    let right : Read-right (only k t) (c .args .bytes .now) list list (Err (Head Kind)) = search needs in
     record { right = right; exact = read-exact (only k t) (only-codes k t (g .C·Coder·met .codes (c .args .coder .now))) (c .args .bytes .now) list list _ refl right }
 
 pub returns-in-Break-vertices : need.returns-in-Break-vertices
