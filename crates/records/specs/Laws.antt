@@ -5,9 +5,10 @@ use mathlib.Core.Path.{_≡_}
 use lib.ListN.{length, take}
 use Rattle.std.specs.declared.option.Option.the-variants.{Some}
 use Rattle.outline.specs.declared.point.Point.{Point}
-use Rattle.coding.specs.Tables.{Table}
-use Rattle.records.specs.Bytes.{record-of}
+use Rattle.coding.specs.Tables.{Table, price-of}
+use Rattle.records.specs.Bytes.{codes-of, record-of}
 use Rattle.records.specs.Reading.{Kinds, Accepted}
+use Rattle.records.specs.Writing.{polygon-bits}
 
 -- Bytes that are accepted with the same kind and vertices begin with the same bytes.
 abbrev pub One-record : Kinds → Type 0
@@ -18,3 +19,7 @@ One-record known =
 abbrev pub Records-apart : Table → Type 0
 Records-apart t =
     (kind : ℕ) (vs ws : List Point) (bytes bytes′ : List ℕ) → record-of t kind vs ≡ Some bytes → record-of t kind ws ≡ Some bytes′ → take (length bytes) bytes′ ≡ bytes → vs ≡ ws
+
+-- The prices of the edges added up are the number of bits of the codes.
+abbrev pub Bits-are-codes : Table → Type 0
+Bits-are-codes t = (vs : List Point) → polygon-bits t vs ≡ price-of (codes-of t vs)

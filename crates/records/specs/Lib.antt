@@ -2,3 +2,5 @@ pub mod Bytes
 pub mod Laws
 pub mod Reading
 pub mod Steps
+pub mod Tails
+pub mod Writing
