@@ -1,6 +1,14 @@
 pub mod Acceptance
 pub mod Bodies
+pub mod Coming
+pub mod Exact
+pub mod Filling
 pub mod Packing
+pub mod Parsing
 pub mod Parts
+pub mod Polygons
+pub mod Prices
+pub mod Recording
 pub mod Spelling
 pub mod Traversal
+pub mod Unique

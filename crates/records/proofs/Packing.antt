@@ -6,10 +6,10 @@ use mathlib.Core.Logic.{⊎-elim}
 use mathlib.Core.Path.{_≡_, refl, sym, ap, ap₂, subst, _∙_}
 use native.Mathlib.Omega.{arith}
 use lib.ListN.{length, getD, take, drop, replicate, length-append, length-take, length-drop, length-replicate}
-use Rattle.std.proofs.shelf.Lists.{getD-replicate, getD-past, getD-take, getD-default, getD-drop, same-lists, take-at, drop-at, drop-append-le, drop-replicate, drop-all, append-nil}
+use Rattle.std.proofs.shelf.Lists.{getD-replicate, getD-past, getD-take, getD-default, getD-drop, same-lists, drop-at, drop-append-le, drop-replicate, drop-all, append-nil, take-append-drop, take-at}
 use Rattle.std.proofs.shelf.Tests.{cases-lt}
 use Rattle.coding.specs.Bits.{low-bits, value, bits-of}
-use Rattle.coding.proofs.BitLists.{length-low-bits, length-bits-of, value-low}
+use Rattle.coding.proofs.BitLists.{length-low-bits, length-bits-of, value-low, low-bits-value}
 use Rattle.records.specs.Bytes.{packed, bytes-of}
 
 -- zeros after some bits read as nothing there
@@ -59,3 +59,28 @@ bytes-back xs bits pad small e few =
     let all : length bits + pad ≡ 8 * length xs = sym (length-append bits (replicate pad false) ∙ ap (λ n. length bits + n) (length-replicate pad false)) ∙ ap length (sym e) ∙ length-bits-of xs in
     let count : (length bits + 7) / 8 ≡ length xs = omega arith in
     ap (λ n. packed n bits) count ∙ packed-back xs bits pad small e few
+
+-- packed bits are read back, with zeros up to the end of the last byte
+pub unpacked : (n : ℕ) (bits : List Bool) → length bits ≤ 8 * n → bits-of (packed n bits) ≡ bits ++ replicate (8 * n - length bits) false
+unpacked zero [] few = refl
+unpacked zero (b ∷ bits) few = absurd (omega arith)
+unpacked (suc n) bits few =
+    let pad = 8 * suc n - length bits in
+    let front = take 8 (bits ++ replicate 8 false) in
+    let all = bits ++ replicate pad false in
+    let long : 8 ≤ length (bits ++ replicate 8 false) = simp (length-append, length-replicate) (omega arith) in
+    let whole : 8 ≤ length all = simp (length-append, length-replicate) (omega arith) in
+    let eight : length front ≡ 8 = simp length-take (omega arith) in
+    let first : low-bits 8 (value front) ≡ take 8 all =
+    ap (λ k. low-bits k (value front)) (sym eight) ∙ low-bits-value front
+    ∙ front-same 8 (bits ++ replicate 8 false) all long whole (λ k. zeros-after bits 8 k ∙ sym (zeros-after bits pad k)) in
+    let less : length (drop 8 bits) ≡ length bits - 8 = length-drop 8 bits in
+    let rest : bits-of (packed n (drop 8 bits)) ≡ drop 8 all =
+    unpacked n (drop 8 bits) (omega arith) ∙ ap (λ k. drop 8 bits ++ replicate k false) (omega arith) ∙ sym (drop-zeros 8 bits pad) in
+    ap₂ (λ a b. a ++ b) first rest ∙ take-append-drop 8 all
+
+-- the bytes of some codes hold them and fewer than eight zeros
+pub bytes-hold : (bits : List Bool) → (pad : ℕ) × (pad < 8) × (bits-of (bytes-of bits) ≡ bits ++ replicate pad false)
+bytes-hold bits =
+    let n = (length bits + 7) / 8 in
+    (8 * n - length bits, omega arith, unpacked n bits (omega arith))

@@ -127,3 +127,10 @@ Refused known bs places Full = (kind : ℕ) × (vs : List Point) × (taken : ℕ
 abbrev pub Read-right : Kinds → List ℕ → List Point → List Point → Result Reading Fault → Type 0
 Read-right known bs before after (Ok a) = (vs : List Point) × Accepted known bs (a .kind) vs (a .bytes) × (length vs ≡ a .vertices) × (after ≡ vs ++ drop (length vs) before)
 Read-right known bs before after (Err f) = Refused known bs (length before) f × (after ≡ before)
+
+-- What reading answers to a record that is there: its kind, bytes and vertices, filled into a list with places for them, else that the list is short.
+abbrev pub Read-exact : Kinds → List ℕ → List Point → List Point → Result Reading Fault → Type 0
+Read-exact known bs before after r =
+    (kind : ℕ) (vs : List Point) (taken : ℕ) → Accepted known bs kind vs taken
+    → (length vs ≤ length before → (r ≡ Ok (record { kind = kind; bytes = taken; vertices = length vs })) × (after ≡ vs ++ drop (length vs) before))
+    × (length before < length vs → r ≡ Err Full)

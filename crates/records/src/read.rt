@@ -1,5 +1,5 @@
 ghost use Rattle.coding.specs.Kinds.{by-direction, chain-code};
-ghost use Rattle.records.specs.Reading.{only, Read-right};
+ghost use Rattle.records.specs.Reading.{only, Read-right, Read-exact};
 use super::body::read_body;
 use super::fault::Fault;
 use super::fault::HeadFault;
@@ -20,7 +20,8 @@ pub fn read_kind<C: Coder>(
     bytes: &[u8],
     list: &mut [Point],
 ) -> Result<Reading, Fault>
-    ensures { λ r. ⌜ Read-right (only kind (C·Coder .table (now (coder .entry)))) (now (bytes .entry)) (now (list .entry)) (now (list .exit)) r ⌝ }
+    ensures right { λ r. ⌜ Read-right (only kind (C·Coder .table (now (coder .entry)))) (now (bytes .entry)) (now (list .entry)) (now (list .exit)) r ⌝ }
+    ensures exact { λ r. ⌜ Read-exact (only kind (C·Coder .table (now (coder .entry)))) (now (bytes .entry)) (now (list .entry)) (now (list .exit)) r ⌝ }
 {
     let head = match read_head(bytes) {
         Ok(head) => head,
@@ -40,7 +41,8 @@ pub fn read_kind<C: Coder>(
 
 // Reads a chain record, as the points of an outline.
 pub fn read_chain(bytes: &[u8], list: &mut [Point]) -> Result<Reading, Fault>
-    ensures { λ r. ⌜ Read-right (only 4 (by-direction chain-code)) (now (bytes .entry)) (now (list .entry)) (now (list .exit)) r ⌝ }
+    ensures right { λ r. ⌜ Read-right (only 4 (by-direction chain-code)) (now (bytes .entry)) (now (list .entry)) (now (list .exit)) r ⌝ }
+    ensures exact { λ r. ⌜ Read-exact (only 4 (by-direction chain-code)) (now (bytes .entry)) (now (list .entry)) (now (list .exit)) r ⌝ }
 {
     read_kind(CHAIN, &Chain, bytes, list)
 }

@@ -9,13 +9,13 @@ use Rattle.tracing.proofs.read.read_outline.Needs as need
 
 pub part-trace-end : need.part-trace-end
 part-trace-end c =
-    let r = c .in-Continue-reading .ensures tt in
+    let r = c .in-Continue-reading .ensures tt .right in
     let fits = front-fits (c .read-chain .last .list) (r .0) _ (c .in-Continue-reading .reading .vertices) (r .3) (r .2) in
     omega arith
 
 pub unreachable-requires : need.unreachable-requires
 unreachable-requires c κs =
-    let r = c .in-Continue-reading .ensures tt in
+    let r = c .in-Continue-reading .ensures tt .right in
     let n = c .in-Continue-reading .reading .vertices in
     let list = c .read-chain .last .list in
     let fits = front-fits list (r .0) _ n (r .3) (r .2) in
@@ -25,7 +25,7 @@ unreachable-requires c κs =
 
 pub returns : need.returns
 returns c =
-    let r = c .in-Continue-reading .ensures tt in
+    let r = c .in-Continue-reading .ensures tt .right in
     let n = c .in-Continue-reading .reading .vertices in
     let bs = c .args .bytes .now in
     let list = c .read-chain .last .list in
