@@ -1,5 +1,5 @@
 -- Chain codes.
-use Prim.Native.Nat.{ℕ, _<_, _≤_}
+use Prim.Native.Nat.{ℕ}
 use mathlib.Core.Bool.{Bool}
 use mathlib.Core.List.{List}
 use mathlib.Core.Path.{_≡_, sym, ap, _∙_}
@@ -10,7 +10,7 @@ use Rattle.std.proofs.shelf.Tests.{eqb-true}
 use Rattle.std.specs.declared.option.Option.the-variants.{Some}
 use Rattle.coding.specs.Bits.{low-bits}
 use Rattle.coding.specs.Kinds.{chain-code}
-use Rattle.coding.proofs.BitLists.{length-low-bits, low-bits-one}
+use Rattle.coding.proofs.BitLists.{low-bits-one}
 use Rattle.coding.proofs.Fields.{cond-some, begins-same}
 use Rattle.coding.proofs.Legs.{Legs}
 

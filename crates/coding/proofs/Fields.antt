@@ -1,7 +1,7 @@
 -- A row of bits: its length, and the numbers at its front.
 use Prim.Native.Nat.{ℕ, _+_, _*_, _^_, _<_, _≤_}
 use mathlib.Core.Bool.{Bool, true, false, cond, _&&_}
-use mathlib.Core.List.{List, [], _∷_, _++_}
+use mathlib.Core.List.{List}
 use mathlib.Core.Logic.{_⊎_, ⊎-elim}
 use mathlib.Core.Path.{_≡_, refl, sym, ap, _∙_}
 use native.Mathlib.Nat.{pow-le-pow-right}
@@ -12,13 +12,12 @@ use denote.Ref.{now}
 use Rattle.std.proofs.shelf.Lists.{take-all, take-more, length-take-le}
 use Rattle.std.proofs.shelf.Maps.{nth-getD}
 use Rattle.std.proofs.shelf.Tests.{cases-lt, and-from, and-left, and-right, and-parts, cases-bool, cond-true, cond-false, le-leb, lt-leb, leb-true}
-use Rattle.std.specs.declared.option.Option.{Option}
 use Rattle.std.specs.declared.option.Option.the-variants.{Some, None}
 use Rattle.std.specs.shelf.Maps.{nth}
 use Rattle.coding.specs.declared.bit_row.BitRow.{BitRow}
 use Rattle.coding.specs.Bits.{bits-of, value, low-bits, Begins, front-number}
 use Rattle.coding.specs.Rows.{row-bits}
-use Rattle.coding.proofs.BitLists.{length-bits-of, length-low-bits, value-push, value-below, low-bits-value}
+use Rattle.coding.proofs.BitLists.{length-bits-of, value-push, value-below, low-bits-value}
 use Rattle.coding.proofs.Views.{length-view}
 
 pub row-length : (r : BitRow) → length (row-bits r) ≡ r .len

@@ -1,23 +1,22 @@
 -- Flat codes.
 use Prim.Native.Nat.{ℕ, suc, _+_, _-_, _*_, _/_, _%_, _^_, _<_, _≤_}
-use mathlib.Core.Bool.{Bool, true, false, _&&_}
+use mathlib.Core.Bool.{Bool, true, _&&_}
 use mathlib.Core.List.{List, _++_}
 use mathlib.Core.Path.{_≡_, refl, sym, ap, ap₂, _∙_}
 use native.Mathlib.Omega.{arith}
 use lib.IntN.{ℤ, pos, negsuc, natAbs, _-ℤ_}
 use lib.ListN.{length, take}
-use lib.Signed.{leZ}
 use mir.Syntax.{w16}
 use mir.Val.{SFits, toZ, ofZ}
 use Rattle.std.proofs.shelf.Lists.{length-append}
 use Rattle.std.proofs.shelf.Signed.{ints, toZ-ofZ}
 use Rattle.std.proofs.shelf.Tests.{and-from, and-parts, cond-true, cond-false, leb-true, le-leb}
-use Rattle.std.specs.declared.option.Option.the-variants.{Some, None}
+use Rattle.std.specs.declared.option.Option.the-variants.{Some}
 use Rattle.coding.specs.Bits.{low-bits, value, Begins}
 use Rattle.coding.specs.Kinds.{twos, flat}
 use Rattle.coding.specs.Tables.{near, Codes, Reads, spelled}
 use Rattle.coding.proofs.BitLists.{length-low-bits, low-bits-one, low-bits-two, value-two}
-use Rattle.coding.proofs.Fields.{cond-some, begins-same, begins-from, begins-fits}
+use Rattle.coding.proofs.Fields.{cond-some, begins-same, begins-from}
 use Rattle.coding.proofs.Views.{append-parts}
 
 pub near-bound : (z : ℤ) → near z ≡ true → natAbs z ≤ 1023

@@ -1,7 +1,7 @@
 -- Pairs of tables.
-use Prim.Native.Nat.{ℕ, suc, _+_, _*_, _%_, _^_, _<_, _≤_}
-use mathlib.Core.Bool.{Bool, true, false, cond, _&&_, Bool·beq}
-use mathlib.Core.List.{List, [], _∷_, _++_}
+use Prim.Native.Nat.{ℕ, _+_, _*_, _%_, _^_, _<_, _≤_}
+use mathlib.Core.Bool.{Bool, true, false, cond, Bool·beq}
+use mathlib.Core.List.{List, [], _∷_}
 use mathlib.Core.Logic.{⊎-elim}
 use mathlib.Core.Path.{_≡_, refl, sym, ap, ap₂, _∙_, subst, subst₂}
 use native.Mathlib.Nat.{pow-le-pow-right}
@@ -14,13 +14,13 @@ use mir.Val.{SFits, boolByte, toZ, ofZ}
 use Rattle.std.proofs.shelf.Bits.{one-shl}
 use Rattle.std.proofs.shelf.Lists.{take-take}
 use Rattle.std.proofs.shelf.Signed.{toZ-ofZ}
-use Rattle.std.proofs.shelf.Tests.{true≢false, false≢true, cases-bool, cases-lt, cond-true, cond-false, leb-true, leb-false}
+use Rattle.std.proofs.shelf.Tests.{true≢false, false≢true, cases-bool, cases-lt, cond-true, cond-false, leb-true}
 use Rattle.std.specs.declared.option.Option.{Option}
 use Rattle.std.specs.declared.option.Option.the-variants.{Some, None}
 use Rattle.std.specs.shelf.Maps.{nth}
 use Rattle.coding.specs.Bits.{value, Begins}
 use Rattle.coding.specs.Kinds.{roomy, either, pair, side, marker}
-use Rattle.coding.specs.Tables.{Table, near, Codes, Reads, price-of, spelled}
+use Rattle.coding.specs.Tables.{Table, Codes, Reads, spelled}
 use Rattle.coding.proofs.BitLists.{value-below}
 use Rattle.coding.proofs.Fields.{none-some, cond-some, begins-fits}
 
@@ -177,8 +177,8 @@ module _ (t u : Table) (x y : ℤ) (m : Bool) (k v n : ℕ) (mark : Some (m, k) 
   whole : (bits : List Bool) × (pair t u x y ≡ Some (m ∷ bits)) × (v ≡ value bits) × (n ≡ length bits) × (n ≤ 31)
   whole =
       let is = marker-is t u x y m k mark in
-      let s : Some (v, n) ≡ Some (value (is .0), length (is .0)) = code ∙ ap spelled (is .2) in
-      let p : (v, n) ≡ (value (is .0), length (is .0)) = cc in
+      let s : _≡_ {A = Option (ℕ × ℕ)} (Some (v, n)) (Some (value (is .0), length (is .0))) = code ∙ ap spelled (is .2) in
+      let p : _≡_ {A = ℕ × ℕ} (v, n) (value (is .0), length (is .0)) = cc in
       let long : n ≡ length (is .0) = ap (λ (q : ℕ × ℕ). q .1) p in
       (is .0, is .1, ap (λ (q : ℕ × ℕ). q .0) p, long, omega (arith, long, is .3, is .4))
 

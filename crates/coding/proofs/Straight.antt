@@ -1,6 +1,6 @@
 -- Moves taken some times, and the direction of a displacement.
 use Prim.Native.Nat.{ℕ, zero, suc, max, _+_, _*_, _^_, _<_, _≤_}
-use mathlib.Core.Bool.{Bool, true, false, cond, _&&_}
+use mathlib.Core.Bool.{Bool, true, cond, _&&_}
 use mathlib.Core.List.{List, [], _∷_, _++_}
 use mathlib.Core.Logic.{⊎-elim}
 use mathlib.Core.Path.{_≡_, refl, sym, ap, ap₂, _∙_, subst, subst₂}
@@ -18,6 +18,7 @@ use Rattle.std.proofs.shelf.Tests.{and-from, and-parts, cases-bool, cases-lt, c
 use Rattle.std.specs.Options.{mapped}
 use Rattle.std.specs.declared.option.Option.{Option}
 use Rattle.std.specs.declared.option.Option.the-variants.{Some, None}
+use Rattle.coding.proofs.Fields.{none-some}
 use Rattle.coding.specs.Directions.{taken, Along, Leads, same, first, heading, along}
 
 -- a fact of each of the eight directions
@@ -132,9 +133,6 @@ abbrev Below : List ℕ → Type 0
 Below [] = Unit {0}
 Below (d ∷ ds) = (d < 8) × Below ds
 
-none-some : {X : Type 0} {P : Type 0} (x : X) → None ≡ Some x → P
-none-some x e = let z : _≡_ {A = ℕ} 0 1 = cc in absurd (omega arith)
-
 first-from : (p : ℕ → Bool) (ds : List ℕ) (d : ℕ) → Below ds → first p ds ≡ Some d → (p d ≡ true) × (d < 8)
 first-from p [] d below e = none-some d e
 first-from p (x ∷ ds) d below e =
@@ -194,8 +192,8 @@ told-some : (m : ℕ) (h : Option ℕ) (d l : ℕ) → told m h ≡ Some (d, l) 
 told-some zero h d l e = none-some (d, l) e
 told-some (suc m) None d l e = none-some (d, l) (sym (cond-true (ltb 0 (suc m)) _ _ (lt-ltb 0 (suc m) (omega arith))) ∙ e)
 told-some (suc m) (Some f) d l e =
-    let s : Some (f, suc m) ≡ Some (d, l) = sym (cond-true (ltb 0 (suc m)) _ _ (lt-ltb 0 (suc m) (omega arith))) ∙ e in
-    let p : (f, suc m) ≡ (d, l) = cc in
+    let s : _≡_ {A = Option (ℕ × ℕ)} (Some (f, suc m)) (Some (d, l)) = sym (cond-true (ltb 0 (suc m)) _ _ (lt-ltb 0 (suc m) (omega arith))) ∙ e in
+    let p : _≡_ {A = ℕ × ℕ} (f, suc m) (d, l) = cc in
     let some : 1 ≤ suc m = omega arith in
     (some, ap (λ (q : ℕ × ℕ). Some (q .0)) p, ap (λ (q : ℕ × ℕ). q .1) p)
 

@@ -1,6 +1,5 @@
 ghost use mathlib.Core.Path.{_≡_};
 ghost use Rattle.coding.specs.Kinds.{kind-number, kind-table};
-ghost use Rattle.outline.specs.declared.refusal.Refusal.{Refusal as Reason};
 ghost use Rattle.outline.specs.declared.refusal.Refusal.the-variants.{Kind as UnknownKind};
 ghost use Rattle.std.specs.Results.{Cases};
 use super::axis::Axis;

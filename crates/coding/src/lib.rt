@@ -29,6 +29,3 @@ pub use pair::Pair;
 pub use pair::PairCoder;
 pub use run::Run;
 pub use run::RunCoder;
-
-#[cfg(test)]
-mod tests;

@@ -1,4 +1,4 @@
-use mathlib.Core.Path.{sym, ap, _∙_}
+use mathlib.Core.Path.{ap, _∙_}
 use native.Mathlib.Omega.{arith}
 use Rattle.coding.specs.Bits.{low-bits}
 use Rattle.coding.proofs.Flats.{no-lowest, signed-high}

@@ -3,8 +3,7 @@ use mathlib.Core.Bool.{Bool, true, false, cond}
 use mathlib.Core.Logic.{inl, inr}
 use mathlib.Core.Path.{_≡_, refl, sym, ap, _∙_}
 use native.Mathlib.Omega.{arith}
-use borrow.Author.Needs.{needs}
-use lib.ListN.{length, take}
+use lib.ListN.{take}
 use mir.Val.{boolByte}
 use Rattle.std.proofs.shelf.Maps.{nth-getD}
 use Rattle.std.specs.declared.option.Option.the-variants.{Some}

@@ -1,5 +1,4 @@
-use Prim.Native.Nat.{ℕ}
-use mathlib.Core.Path.{refl, sym, ap, _∙_}
+use mathlib.Core.Path.{refl, sym, ap}
 use Rattle.coding.specs.Bits.{low-bits}
 use Rattle.coding.specs.Kinds.{chain-code}
 use Rattle.coding.proofs.BitLists.{value-low}

@@ -1,6 +1,5 @@
-use mathlib.Core.Path.{refl, sym, subst, _∙_}
+use mathlib.Core.Path.{refl, sym, subst}
 use native.Mathlib.Omega.{arith}
-use lib.ListN.{length}
 use Rattle.coding.specs.Bits.{low-bits}
 use Rattle.coding.specs.Kinds.{by-direction, chain-code}
 use Rattle.coding.specs.Rows.{row-bits}

@@ -1,5 +1,4 @@
-use Prim.Native.Nat.{_<_, _^_}
-use mathlib.Core.Path.{refl, sym, subst}
+use mathlib.Core.Path.{sym, subst}
 use native.Mathlib.Omega.{arith}
 use Rattle.coding.specs.Kinds.{flat}
 use Rattle.coding.specs.Rows.{row-bits}

@@ -1,8 +1,7 @@
-use mathlib.Core.Path.{sym, ap, subst, _∙_}
+use mathlib.Core.Path.{sym, subst}
 use borrow.Author.Needs.{needs}
 use native.Mathlib.Omega.{arith}
 use denote.Ref.{now}
-use lib.ListN.{drop}
 use mir.Syntax.{w16}
 use mir.Val.{SFits}
 use Rattle.std.specs.declared.option.Option.the-variants.{None}
