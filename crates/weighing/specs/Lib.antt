@@ -1,1 +1,4 @@
+pub mod Deviations
+pub mod Edges
+pub mod Weighers
 pub mod Weights
