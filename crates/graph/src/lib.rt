@@ -34,12 +34,11 @@ pub trait Graph {
     // The most edges that lead to a place.
     ghost depth: { Self → ℕ → ℕ };
 
-    law few: { (g : Self) → places g ≤ 2 ^ 16 };
-
-    law shallow: { (g : Self) → Shallow (places g) (edge g) (depth g) };
-
+    // What holds of every graph is promised with the number, so that a graph may hold references.
     fn places(&self) -> usize
-        ensures { λ r. ⌜ r ≡ places (now (self .entry)) ⌝ };
+        ensures number { λ r. ⌜ r ≡ places (now (self .entry)) ⌝ }
+        ensures few { λ _. ⌜ places (now (self .entry)) ≤ 2 ^ 16 ⌝ }
+        ensures shallow { λ _. ⌜ Shallow (places (now (self .entry))) (edge (now (self .entry))) (depth (now (self .entry))) ⌝ };
 
     fn edge(&self, from: usize, to: usize) -> Option<Self::Weight>
         ensures { λ r. ⌜ r ≡ edge (now (self .entry)) from to ⌝ };

@@ -1,8 +1,8 @@
 // The least cost of each place, from the lowest place on.
 ghost use mathlib.Core.Path.{_≡_};
-ghost use Prim.Native.Nat.{_≤_, _<_};
+ghost use Prim.Native.Nat.{_^_, _≤_, _<_};
 ghost use lib.ListN.{length, take};
-ghost use Rattle.graph.specs.Rows.{offer, RowRule, Table, Filled};
+ghost use Rattle.graph.specs.Rows.{Shallow, offer, RowRule, Table, Filled};
 ghost use Rattle.graph.specs.Steps.{better, Best};
 use crate::Graph;
 use crate::Row;
@@ -45,6 +45,8 @@ fn offered<G: Graph>(graph: &G, rows: &[Row<G::Cost>], from: usize, to: usize) -
 fn best<G: Graph>(graph: &G, rows: &[Row<G::Cost>], to: usize) -> Option<Candidate<G::Cost>>
     requires room { ⌜ to ≤ length (now rows) ⌝ }
     requires place { ⌜ to < G·Graph .places (now graph) ⌝ }
+    requires few { ⌜ G·Graph .places (now graph) ≤ 2 ^ 16 ⌝ }
+    requires shallow { ⌜ Shallow (G·Graph .places (now graph)) (G·Graph .edge (now graph)) (G·Graph .depth (now graph)) ⌝ }
     requires table { ⌜ Table (Cost·Cost .cost) (G·Graph .edge (now graph)) (take to (now rows)) ⌝ }
     ensures { λ r. ⌜ Best (Cost·Cost .cost) (λ i. offer (Cost·Cost .cost) (G·Graph .edge (now (graph .entry))) (now (rows .entry)) i to) to r ⌝ }
 {
@@ -64,6 +66,8 @@ fn best<G: Graph>(graph: &G, rows: &[Row<G::Cost>], to: usize) -> Option<Candida
 fn row<G: Graph>(graph: &G, rows: &[Row<G::Cost>], to: usize) -> Row<G::Cost>
     requires room { ⌜ to ≤ length (now rows) ⌝ }
     requires place { ⌜ to < G·Graph .places (now graph) ⌝ }
+    requires few { ⌜ G·Graph .places (now graph) ≤ 2 ^ 16 ⌝ }
+    requires shallow { ⌜ Shallow (G·Graph .places (now graph)) (G·Graph .edge (now graph)) (G·Graph .depth (now graph)) ⌝ }
     requires table { ⌜ Table (Cost·Cost .cost) (G·Graph .edge (now graph)) (take to (now rows)) ⌝ }
     ensures { λ r. ⌜ RowRule (Cost·Cost .cost) (G·Graph .edge (now (graph .entry))) (now (rows .entry)) to r ⌝ }
 {

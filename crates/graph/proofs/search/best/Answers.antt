@@ -16,7 +16,7 @@ loop-from-again g c =
     let from = c .loop-from .from in
     elim (c .match-offered .came) [
       | in-Some w ↦
-          offer-more k edge rows to (c .pre .room) (c .pre .table) (g .G·Graph .places graph) (g .G·Graph .depth graph) (g .G·Graph·met .shallow graph) (g .Cost·Cost·met .laws) (c .pre .place)
+          offer-more k edge rows to (c .pre .room) (c .pre .table) (g .G·Graph .places graph) (g .G·Graph .depth graph) (c .pre .shallow) (g .Cost·Cost·met .laws) (c .pre .place)
           from (c .loop-from .best) (c .match-offered .best) _ (w .better .result) (c .loop-from-test .taken) (c .loop-from .inv) refl (w .in-Some .ensures tt) (w .better .ensures) (w .best-is)
       | in-rest w ↦ offer-skips k edge rows to from (c .loop-from .best) (c .match-offered .best) (c .loop-from .inv) (w .in-rest .ensures tt) (w .best-is)
     ]

@@ -17,7 +17,7 @@ loop-to-again g c =
 
 pub returns : need.returns
 returns g c =
-    let e = c .places-places .ensures in
+    let e = c .places-places .ensures .number in
     let rows = c .loop-to .rows in (
       omega arith,
       subst (λ n. Table (g .Cost·Cost .cost) (g .G·Graph .edge (c .args .graph .now)) (take n rows)) (omega arith) (c .loop-to .inv .1),

@@ -1,0 +1,4 @@
+pub mod Bests
+pub mod Lasts
+pub mod Polygons
+pub mod Prices
