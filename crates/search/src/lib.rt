@@ -4,6 +4,10 @@ ghost use lib.ListN.{length};
 ghost use Rattle.outline.specs.Plain.{plain};
 ghost use Rattle.search.specs.Best.{Best-answered};
 ghost use Rattle.search.specs.Rules.{Answered};
+pub use by_price::PricedPolygon;
+pub use by_price::cheapest;
+pub use by_straying::StrayingPolygon;
+pub use by_straying::finest;
 use graph::Row;
 pub use list::read_list;
 use outline::Outline;
@@ -12,6 +16,8 @@ pub use rows::check_room;
 pub use rows::fill_rows;
 use weighing::Weigher;
 
+mod by_price;
+mod by_straying;
 mod list;
 mod rows;
 
