@@ -14,6 +14,8 @@ use weighing::Weigher;
 
 mod list;
 mod rows;
+#[cfg(test)]
+mod tests;
 
 // A polygon at the front of a list: its number of vertices, and its cost.
 #[derive(Clone, Copy)]
