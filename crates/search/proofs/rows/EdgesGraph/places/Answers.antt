@@ -9,4 +9,5 @@ pub returns : need.returns
 returns g c =
     let o = c .args .self .now .outline .now in
     let few = rules-of o .count .1 in
-    record { number = c .len .ensures; few = omega arith; shallow = shallow-points (length (plain o .points)) _ few }
+    let weight = g .W·Weigher .weight (c .args .self .now .weigher .now) (plain o .points) in
+    record { number = c .len .ensures; few = omega arith; shallow = shallow-points (length (plain o .points)) weight few }
