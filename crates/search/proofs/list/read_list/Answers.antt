@@ -22,7 +22,7 @@ pub offset-rows-last : need.offset-rows-last
 offset-rows-last g c = omega (arith, read-back-inside (c .in-Continue-vertices .ensures tt .1))
 
 pub index-rows-last : need.index-rows-last
-index-rows-last g c = read-back-inside (c .in-Continue-vertices .ensures tt .1)
+index-rows-last g c = omega (arith, read-back-inside (c .in-Continue-vertices .ensures tt .1))
 
 pub returns : need.returns
 returns g c =
