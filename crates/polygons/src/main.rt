@@ -1,28 +1,29 @@
-// Reads a chain record on standard input, traces its outline, and prints what it has traced.
+// Reads a chain record on standard input and prints the cheapest polygon of its outline for each kind of code.
+use listing::Line;
+use listing::Listing;
+use listing::NumbersDisplay;
+use listing::header;
+use listing::kind_refused;
+use listing::list_record;
+use listing::record_refused;
 use std::io;
 use std::io::Read;
+use std::io::Write;
 
 fn main(rt: LibcRuntime) -> io::Result<()> {
     let mut bytes = Vec::new(rt.alloc());
     rt.stdin().read_to_end(&mut bytes)?;
-    match tracing::read_outline(&bytes) {
-        Ok(outline) => {
-            let points = outline.points();
-            let count = points.len();
-            println!(rt, "points {count}")?;
-            if let Some(first) = points.first() {
-                let (col, row) = (first.col, first.row);
-                println!(rt, "start {col} {row}")?;
-            }
-            if let Some(last) = points.last() {
-                let (col, row) = (last.col, last.row);
-                println!(rt, "end {col} {row}")?;
+    match list_record(&bytes) {
+        Listing::Faulty(fault) => rt.stdout().write_all(record_refused(fault)),
+        Listing::Kinds(lines) => {
+            rt.stdout().write_all(header())?;
+            for line in lines {
+                match line {
+                    Line::Polygon(numbers) => println!(rt, "{numbers}")?,
+                    Line::Refused(kind) => rt.stdout().write_all(kind_refused(kind))?,
+                }
             }
             Ok(())
-        }
-        Err(fault) => {
-            let number = fault.refusal().number();
-            println!(rt, "record refused {number}")
         }
     }
 }
