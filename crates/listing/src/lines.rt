@@ -24,7 +24,9 @@ fn kind_line(outline: &Outline, kind: Kind) -> Line
         reached: false,
         cost: TwoPart {
             first: Bits { count: 0 },
-            second: Deviation { value: Fraction::zero() },
+            second: Deviation {
+                value: Fraction::zero(),
+            },
         },
         predecessor: 0,
     };

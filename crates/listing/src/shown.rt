@@ -12,7 +12,13 @@ pub impl fmt::Display for Numbers as NumbersDisplay {
     ghost shown = { λ n. Some (numbers-text n) };
 
     fn fmt<W: fmt::Write>(&self, f: &mut fmt::Formatter<W>) -> fmt::Result {
-        let Numbers { kind, bits, vertices, top, bottom } = *self;
+        let Numbers {
+            kind,
+            bits,
+            vertices,
+            top,
+            bottom,
+        } = *self;
         write!(f, "{kind} {bits} {vertices} {top} {bottom}")
     }
 }

@@ -50,7 +50,7 @@ module _ (codes codes′ : Table) (strays strays′ : Strays) (ps : List Point) 
         → Best-answered priced-cost (priced-weight codes′ strays′ t ps) (length ps) list (cheapest-found a) → Cheapest-best codes strays o ps list a
     cheapest-best list a few h =
         let b : Best-answered priced-cost (priced-weight codes strays t ps) (length ps) list (cheapest-found a) =
-            subst₂ (λ c s. Best-answered priced-cost (priced-weight c s t ps) (length ps) list (cheapest-found a)) same-codes same-strays h in
+        subst₂ (λ c s. Best-answered priced-cost (priced-weight c s t ps) (length ps) list (cheapest-found a)) same-codes same-strays h in
         subst (λ x. Cheapest-best codes strays x ps list a) is (b, own list a few b)
 
   pub finest-rule : (rows rows-after : List (Row Deviation)) (list list-after : List ℕ) (a : Result StrayingPolygon Refusal)
@@ -69,5 +69,5 @@ module _ (codes codes′ : Table) (strays strays′ : Strays) (ps : List Point) 
       → Best-answered deviation-cost (straying-weight codes strays ps) (length ps) list (finest-found a) × Own-deviation strays ps list a
   finest-best list a h =
       let b : Best-answered deviation-cost (straying-weight codes strays ps) (length ps) list (finest-found a) =
-          subst₂ (λ c s. Best-answered deviation-cost (straying-weight c s ps) (length ps) list (finest-found a)) same-codes same-strays h in
+      subst₂ (λ c s. Best-answered deviation-cost (straying-weight c s ps) (length ps) list (finest-found a)) same-codes same-strays h in
       (b, own-deviation list a b)

@@ -17,8 +17,7 @@ pub trait Weigher {
     ghost weight: { Self → List PointOf → ℕ → ℕ → Option Self·Weight };
 
     // Numbers other than i < j below the number of points get none.
-    law edges: { (s : Self) → Edges-only (weight s) };
-
     fn weight(&self, outline: &Outline, i: usize, j: usize) -> Option<Self::Weight>
-        ensures { λ r. ⌜ r ≡ weight (now (self .entry)) (plain (now (outline .entry)) .points) i j ⌝ };
+        ensures value { λ r. ⌜ r ≡ weight (now (self .entry)) (plain (now (outline .entry)) .points) i j ⌝ }
+        ensures edges { λ _. ⌜ Edges-only (weight (now (self .entry))) ⌝ };
 }

@@ -24,12 +24,12 @@ returns-in-Break-found g c =
     let q = err-from-errBy (c .from-residual-in-Break-found .result) (c .from-residual-in-Break-found .ensures .1) in
     let is = sym (q .1 ∙ ap Err (q .2)) in
     record {
-        rule =
-            subst (Cheapest-rule codes strays o ps (c .args .rows .now) (c .least .last .rows) (c .args .list .now) (c .least .last .list)) is
-            (cheapest-rule codes _ strays _ ps same-codes same-strays t o (p .2) (c .args .rows .now) (c .least .last .rows) (c .args .list .now) (c .least .last .list) (Err e) (h .rule));
-        best = λ m n.
-            subst (Cheapest-best codes strays o ps (c .least .last .list)) is
-            (cheapest-best codes _ strays _ ps same-codes same-strays t o (p .2) (c .least .last .list) (Err e) few (h .best m n));
+      rule =
+          subst (Cheapest-rule codes strays o ps (c .args .rows .now) (c .least .last .rows) (c .args .list .now) (c .least .last .list)) is
+          (cheapest-rule codes _ strays _ ps same-codes same-strays t o (p .2) (c .args .rows .now) (c .least .last .rows) (c .args .list .now) (c .least .last .list) (Err e) (h .rule));
+      best = λ m n.
+          subst (Cheapest-best codes strays o ps (c .least .last .list)) is
+          (cheapest-best codes _ strays _ ps same-codes same-strays t o (p .2) (c .least .last .list) (Err e) few (h .best m n));
     }
 
 pub returns : need.returns
@@ -46,6 +46,6 @@ returns g c =
     let few = rules-of (c .args .outline .now) .count .1 in
     let h = c .in-Continue-found .ensures tt in
     record {
-        rule = cheapest-rule codes _ strays _ ps same-codes same-strays t _ (p .2) (c .args .rows .now) (c .least .last .rows) (c .args .list .now) (c .least .last .list) answer (h .rule);
-        best = λ m n. cheapest-best codes _ strays _ ps same-codes same-strays t _ (p .2) (c .least .last .list) answer few (h .best m n);
+      rule = cheapest-rule codes _ strays _ ps same-codes same-strays t _ (p .2) (c .args .rows .now) (c .least .last .rows) (c .args .list .now) (c .least .last .list) answer (h .rule);
+      best = λ m n. cheapest-best codes _ strays _ ps same-codes same-strays t _ (p .2) (c .least .last .list) answer few (h .best m n);
     }

@@ -16,6 +16,6 @@ returns g c =
     let answer = Ok (record { vertices = found .vertices; deviation = found .cost .value }) in
     let h = c .in-Continue-found .ensures tt in
     record {
-        rule = finest-rule codes _ strays _ ps same-codes same-strays (c .args .rows .now) (c .least .last .rows) (c .args .list .now) (c .least .last .list) answer (h .rule);
-        best = λ m n. finest-best codes _ strays _ ps same-codes same-strays (c .least .last .list) answer (h .best m n);
+      rule = finest-rule codes _ strays _ ps same-codes same-strays (c .args .rows .now) (c .least .last .rows) (c .args .list .now) (c .least .last .list) answer (h .rule);
+      best = λ m n. finest-best codes _ strays _ ps same-codes same-strays (c .least .last .list) answer (h .best m n);
     }
