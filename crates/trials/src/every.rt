@@ -1,3 +1,10 @@
+use super::asked::KEPT;
+use super::asked::PricedRow;
+use super::asked::Said;
+use super::asked::ask_cheapest;
+use super::asked::ask_finest;
+use super::asked::ask_rows;
+use super::asked::ratio_of;
 use super::plain::Edges;
 use super::plain::Goal;
 use super::plain::GoalDebug;
@@ -8,26 +15,15 @@ use super::plain::WayPartialEq;
 use super::plain::Weight;
 use super::plain::best;
 use super::plain::all_edges;
+use super::plain::edge_between;
 use super::plain::weigh;
 use super::ratio::Ratio;
 use super::ratio::RatioPartialEq;
 use coding::Kind;
-use coding::KindCoder;
-use cost::bits::Bits;
-use cost::two_part::TwoPart;
-use graph::Row;
-use measure::Fraction;
-use measure::Line;
-use measure::LineMeasure;
-use measure::Pace;
-use measure::PaceMeasure;
 use outline::Outline;
 use outline::Refusal;
 use outline::RefusalDebug;
-use search::cheapest;
-use search::finest;
 use std::test::*;
-use weighing::Deviation;
 
 const KINDS: [Kind; 5] = [
     Kind::Flat,
@@ -46,92 +42,6 @@ const ANY: Ratio = Ratio {
     top: 1 << 40,
     bottom: 1,
 };
-
-// What a list holds where nothing was written.
-const KEPT: u16 = 777;
-
-fn any_deviation() -> Deviation {
-    Deviation {
-        value: Fraction::largest(),
-    }
-}
-
-fn priced_rows() -> [Row<TwoPart<Bits, Deviation>>; 16] {
-    let row = Row {
-        reached: true,
-        cost: TwoPart {
-            first: Bits { count: 1 },
-            second: any_deviation(),
-        },
-        predecessor: KEPT,
-    };
-    [row; 16]
-}
-
-fn straying_rows() -> [Row<Deviation>; 16] {
-    let row = Row {
-        reached: true,
-        cost: any_deviation(),
-        predecessor: KEPT,
-    };
-    [row; 16]
-}
-
-fn ratio_of(f: Fraction) -> Ratio {
-    Ratio {
-        top: f.top() as i64,
-        bottom: f.bottom() as i64,
-    }
-}
-
-// What a search said, with the list that it left. The finest search says no bits.
-#[derive(Clone, Copy)]
-struct Said {
-    vertices: usize,
-    weight: Weight,
-    list: [u16; 16],
-}
-
-fn ask_cheapest(
-    outline: &Outline,
-    kind: Kind,
-    way: Way,
-    top: u32,
-    bottom: u32,
-) -> Result<Said, Refusal> {
-    let (top, bottom) = (top as u64, bottom as u64);
-    let mut rows = priced_rows();
-    let mut list = [KEPT; 16];
-    let found = match way {
-        Way::Line => cheapest(outline, &kind, &Line, top, bottom, &mut rows, &mut list)?,
-        Way::Pace => cheapest(outline, &kind, &Pace, top, bottom, &mut rows, &mut list)?,
-    };
-    Ok(Said {
-        vertices: found.vertices,
-        weight: Weight {
-            bits: found.bits as u32,
-            strays: ratio_of(found.deviation),
-        },
-        list,
-    })
-}
-
-fn ask_finest(outline: &Outline, kind: Kind, way: Way) -> Result<Said, Refusal> {
-    let mut rows = straying_rows();
-    let mut list = [KEPT; 16];
-    let found = match way {
-        Way::Line => finest(outline, &kind, &Line, &mut rows, &mut list)?,
-        Way::Pace => finest(outline, &kind, &Pace, &mut rows, &mut list)?,
-    };
-    Ok(Said {
-        vertices: found.vertices,
-        weight: Weight {
-            bits: 0,
-            strays: ratio_of(found.deviation),
-        },
-        list,
-    })
-}
 
 // The points of a list as a set, where it rises from 0 to the last one and nothing is written behind it.
 fn points_of(said: &Said, last: usize) -> Option<u32> {
@@ -167,9 +77,7 @@ fn is_best(edges: &Edges, last: usize, goal: Goal, best: Weight, said: &Said) ->
     let Some(own) = weigh(edges, last, set) else {
         return false;
     };
-    let same = own.strays == said.weight.strays
-        && !own.strays.exceeds(best.strays)
-        && !best.strays.exceeds(own.strays);
+    let same = own.strays == said.weight.strays && own.strays.equals(best.strays);
     match goal {
         Goal::FewestBits => same && own.bits == best.bits && own.bits == said.weight.bits,
         Goal::LeastStraying => same,
@@ -200,12 +108,16 @@ fn finest_agrees(outline: &Outline, kind: Kind, way: Way) -> bool {
     agrees(&edges, outline, Goal::LeastStraying, ask_finest(outline, kind, way))
 }
 
-fn cheapest_agrees(outline: &Outline, kind: Kind, way: Way, top: u32, bottom: u32) -> bool {
+fn edges_within(outline: &Outline, kind: Kind, way: Way, top: u32, bottom: u32) -> Edges {
     let tolerance = Ratio {
         top: top as i64,
         bottom: bottom as i64,
     };
-    let edges = all_edges(outline.points(), kind.number(), way, tolerance);
+    all_edges(outline.points(), kind.number(), way, tolerance)
+}
+
+fn cheapest_agrees(outline: &Outline, kind: Kind, way: Way, top: u32, bottom: u32) -> bool {
+    let edges = edges_within(outline, kind, way, top, bottom);
     let said = ask_cheapest(outline, kind, way, top, bottom);
     agrees(&edges, outline, Goal::FewestBits, said)
 }
@@ -260,6 +172,71 @@ fn every_short_outline() -> Result<(), Fail> {
         for word in 0..1u32 << (3 * steps) {
             let outline = short_outline(word, steps)?;
             check_eq(first_miss(&outline, &TOLERANCES), None).note(word)?;
+        }
+    }
+    Ok(())
+}
+
+// The lowest point before `to` from which the best weight is reached.
+fn lowest_before(edges: &Edges, to: usize, least: Weight) -> usize {
+    for from in 0..16usize {
+        if let Some(weight) = best(edges, from, Goal::FewestBits) {
+            match weight.joined(edge_between(edges, from, to)) {
+                Some(whole) if whole.bits == least.bits && whole.strays.equals(least.strays) => {
+                    return from;
+                }
+                _ => {}
+            }
+        }
+    }
+    16
+}
+
+// Whether a row has the best weight of its point, and of its equal predecessors the lowest.
+fn row_agrees(edges: &Edges, point: usize, row: &PricedRow) -> bool {
+    let cost = row.cost;
+    match best(edges, point, Goal::FewestBits) {
+        None => !row.reached && row.predecessor == 0,
+        Some(least) => {
+            let before = if point == 0 {
+                0
+            } else {
+                lowest_before(edges, point, least)
+            };
+            row.reached
+                && cost.first.count as u32 == least.bits
+                && ratio_of(cost.second.value).equals(least.strays)
+                && row.predecessor as usize == before
+        }
+    }
+}
+
+// The rows past the points are as they were.
+fn rows_agree(outline: &Outline, kind: Kind, way: Way, top: u32, bottom: u32) -> bool {
+    let edges = edges_within(outline, kind, way, top, bottom);
+    let rows = ask_rows(outline, kind, way, top, bottom);
+    for (point, row) in rows.iter().enumerate() {
+        let agrees = if point < outline.len() {
+            row_agrees(&edges, point, row)
+        } else {
+            row.reached && row.predecessor == KEPT
+        };
+        if !agrees {
+            return false;
+        }
+    }
+    true
+}
+
+#[test]
+fn every_row() -> Result<(), Fail> {
+    for word in 0..4096u32 {
+        let outline = short_outline(word, 4)?;
+        for kind in KINDS {
+            for (top, bottom) in TOLERANCES {
+                check(rows_agree(&outline, kind, Way::Line, top, bottom)).note(word)?;
+                check(rows_agree(&outline, kind, Way::Pace, top, bottom)).note(word)?;
+            }
         }
     }
     Ok(())

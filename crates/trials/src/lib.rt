@@ -1,5 +1,7 @@
 // Trials of the searches against every polygon of many outlines.
 #[cfg(test)]
+mod asked;
+#[cfg(test)]
 mod every;
 #[cfg(test)]
 mod plain;

@@ -18,7 +18,7 @@ pub enum Goal {
     LeastStraying,
 }
 
-pub const ZERO: Ratio = Ratio { top: 0, bottom: 1 };
+const ZERO: Ratio = Ratio { top: 0, bottom: 1 };
 
 #[derive(Clone, Copy)]
 pub struct Edge {
@@ -41,6 +41,18 @@ pub struct Weight {
 }
 
 impl Weight {
+    // With a usable edge more.
+    pub fn joined(self, edge: Edge) -> Option<Weight> {
+        Some(Weight {
+            bits: self.bits.saturating_add(edge.bits?),
+            strays: if edge.strays.exceeds(self.strays) {
+                edge.strays
+            } else {
+                self.strays
+            },
+        })
+    }
+
     fn is_better(self, other: Weight, goal: Goal) -> bool {
         let closer = other.strays.exceeds(self.strays);
         match goal {
@@ -72,7 +84,7 @@ fn run_price(steps: u64) -> Option<u32> {
     }
 }
 
-pub fn price(kind: u16, dx: i64, dy: i64) -> Option<u32> {
+fn price(kind: u16, dx: i64, dy: i64) -> Option<u32> {
     let steps = steps(dx, dy);
     match kind {
         1 => Some(22),
@@ -196,6 +208,10 @@ pub fn all_edges(points: &[Point], kind: u16, way: Way, tolerance: Ratio) -> Edg
     edges
 }
 
+pub fn edge_between(edges: &Edges, i: usize, j: usize) -> Edge {
+    edges[i % 16 * 16 + j % 16]
+}
+
 // The weight of the polygon from point 0 to the last with a set of points between them, if its edges are usable.
 pub fn weigh(edges: &Edges, last: usize, between: u32) -> Option<Weight> {
     let mut weight = Weight {
@@ -205,11 +221,7 @@ pub fn weigh(edges: &Edges, last: usize, between: u32) -> Option<Weight> {
     let mut from = 0;
     for to in 1..16usize {
         if to == last || (to < last && (between >> to) & 1 == 1) {
-            let edge = edges[from % 16 * 16 + to];
-            weight.bits = weight.bits.saturating_add(edge.bits?);
-            if edge.strays.exceeds(weight.strays) {
-                weight.strays = edge.strays;
-            }
+            weight = weight.joined(edge_between(edges, from, to))?;
             from = to;
         }
     }

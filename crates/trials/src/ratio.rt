@@ -10,4 +10,8 @@ impl Ratio {
     pub fn exceeds(self, other: Ratio) -> bool {
         self.top.wrapping_mul(other.bottom) > other.top.wrapping_mul(self.bottom)
     }
+
+    pub fn equals(self, other: Ratio) -> bool {
+        self.top.wrapping_mul(other.bottom) == other.top.wrapping_mul(self.bottom)
+    }
 }
