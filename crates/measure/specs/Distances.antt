@@ -7,18 +7,11 @@ use lib.ListN.{length, getD}
 use Rattle.std.specs.declared.option.Option.{Option}
 use Rattle.std.specs.declared.option.Option.the-variants.{None}
 use Rattle.outline.specs.declared.point.Point.{Point}
+pub use Rattle.outline.specs.Between.{cols, rows}
 use Rattle.outline.specs.Held.{origin}
 use Rattle.measure.specs.declared.fraction.Fraction.{Fraction}
 use Rattle.measure.specs.Fractions.{fraction}
 use Rattle.measure.specs.Measures.{Strays}
-
--- How many columns the second point lies to the right of the first.
-abbrev pub cols : Point → Point → ℤ
-cols u v = pos (v .col) -ℤ pos (u .col)
-
--- How many rows the second point lies below the first.
-abbrev pub rows : Point → Point → ℤ
-rows u v = pos (v .row) -ℤ pos (u .row)
 
 -- The square of a whole number.
 abbrev pub square : ℤ → ℕ

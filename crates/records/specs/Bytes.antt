@@ -2,12 +2,12 @@
 use Prim.Native.Nat.{ℕ, zero, suc, _+_, _*_, _/_, _%_, _≤_, _<_}
 use mathlib.Core.Bool.{Bool, false}
 use mathlib.Core.List.{List, [], _∷_, _++_}
-use lib.IntN.{ℤ, pos, _-ℤ_}
 use lib.ListN.{length, take, drop, replicate}
 use Rattle.std.specs.Options.{mapped}
 use Rattle.std.specs.declared.option.Option.{Option}
 use Rattle.std.specs.declared.option.Option.the-variants.{Some, None}
 use Rattle.outline.specs.declared.point.Point.{Point}
+pub use Rattle.outline.specs.Between.{cols, rows}
 use Rattle.coding.specs.Bits.{value}
 use Rattle.coding.specs.Tables.{Table}
 
@@ -28,14 +28,6 @@ bytes-of bits = packed ((length bits + 7) / 8) bits
 abbrev pub joined-codes : Option (List Bool) → Option (List Bool) → Option (List Bool)
 joined-codes (Some code) rest = mapped (λ codes. code ++ codes) rest
 joined-codes None rest = None
-
--- The columns from one point to another.
-abbrev pub cols : Point → Point → ℤ
-cols u v = pos (v .col) -ℤ pos (u .col)
-
--- The rows from one point to another.
-abbrev pub rows : Point → Point → ℤ
-rows u v = pos (v .row) -ℤ pos (u .row)
 
 -- The codes of the displacements from a vertex on, one after the other, where each has one.
 abbrev pub codes-from : Table → Point → List Point → Option (List Bool)
