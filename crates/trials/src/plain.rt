@@ -56,9 +56,7 @@ impl Weight {
     fn is_better(self, other: Weight, goal: Goal) -> bool {
         let closer = other.strays.exceeds(self.strays);
         match goal {
-            Goal::FewestBits => {
-                self.bits < other.bits || (self.bits == other.bits && closer)
-            }
+            Goal::FewestBits => { self.bits < other.bits || (self.bits == other.bits && closer) }
             Goal::LeastStraying => closer,
         }
     }
@@ -134,7 +132,9 @@ impl Spot {
     }
 
     fn dot(self, other: Spot) -> i64 {
-        self.x.wrapping_mul(other.x).wrapping_add(self.y.wrapping_mul(other.y))
+        self.x
+            .wrapping_mul(other.x)
+            .wrapping_add(self.y.wrapping_mul(other.y))
     }
 }
 
@@ -150,14 +150,18 @@ fn from_line(u: Spot, v: Spot, p: Spot) -> Ratio {
     }
     let along = v.dot(p);
     Ratio {
-        top: length.wrapping_mul(p.dot(p)).wrapping_sub(along.wrapping_mul(along)),
+        top: length
+            .wrapping_mul(p.dot(p))
+            .wrapping_sub(along.wrapping_mul(along)),
         bottom: length,
     }
 }
 
 // By the n-fold point and the n-fold place: |n p - (n - m) u - m v|² over n².
 fn from_pace(n: i64, m: i64, u: Spot, v: Spot, p: Spot) -> Ratio {
-    let lag = p.times(n).minus(u.times(n.wrapping_sub(m))).minus(v.times(m));
+    let lag = p.times(n)
+        .minus(u.times(n.wrapping_sub(m)))
+        .minus(v.times(m));
     Ratio {
         top: lag.dot(lag),
         bottom: n.wrapping_mul(n),
