@@ -107,14 +107,7 @@ pub fn ask_finest(outline: &Outline, kind: Kind, way: Way) -> Result<Said, Refus
     })
 }
 
-
-pub fn ask_rows(
-    outline: &Outline,
-    kind: Kind,
-    way: Way,
-    top: u32,
-    bottom: u32,
-) -> [PricedRow; 16] {
+pub fn ask_rows(outline: &Outline, kind: Kind, way: Way, top: u32, bottom: u32) -> [PricedRow; 16] {
     let (top, bottom) = (top as u64, bottom as u64);
     let mut rows = [priced_row(); 16];
     let mut list = [KEPT; 16];

@@ -13,8 +13,8 @@ use super::plain::Way;
 use super::plain::WayDebug;
 use super::plain::WayPartialEq;
 use super::plain::Weight;
-use super::plain::best;
 use super::plain::all_edges;
+use super::plain::best;
 use super::plain::edge_between;
 use super::plain::weigh;
 use super::ratio::Ratio;
@@ -105,7 +105,12 @@ struct Miss {
 
 fn finest_agrees(outline: &Outline, kind: Kind, way: Way) -> bool {
     let edges = all_edges(outline.points(), kind.number(), way, ANY);
-    agrees(&edges, outline, Goal::LeastStraying, ask_finest(outline, kind, way))
+    agrees(
+        &edges,
+        outline,
+        Goal::LeastStraying,
+        ask_finest(outline, kind, way),
+    )
 }
 
 fn edges_within(outline: &Outline, kind: Kind, way: Way, top: u32, bottom: u32) -> Edges {
@@ -122,7 +127,12 @@ fn cheapest_agrees(outline: &Outline, kind: Kind, way: Way, top: u32, bottom: u3
     agrees(&edges, outline, Goal::FewestBits, said)
 }
 
-fn first_miss_by(outline: &Outline, kind: Kind, way: Way, tolerances: &[(u32, u32)]) -> Option<Miss> {
+fn first_miss_by(
+    outline: &Outline,
+    kind: Kind,
+    way: Way,
+    tolerances: &[(u32, u32)],
+) -> Option<Miss> {
     let mut miss = Miss {
         kind: kind.number(),
         way,

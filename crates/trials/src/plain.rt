@@ -1,7 +1,5 @@
 // The best polygon by trying each one. Prices and distances are worked out here, in other ways than the library's.
 use super::ratio::Ratio;
-use super::ratio::RatioDebug;
-use super::ratio::RatioPartialEq;
 use outline::Point;
 
 // How far a point strays: from the line through the ends, or from an even pace along the edge.
@@ -34,7 +32,7 @@ const UNUSABLE: Edge = Edge {
 // The edges between 16 points: that from i to j at 16 i + j.
 pub type Edges = [Edge; 256];
 
-#[derive(Clone, Copy, PartialEq, Eq, Debug)]
+#[derive(Clone, Copy)]
 pub struct Weight {
     pub bits: u32,
     pub strays: Ratio,
@@ -56,9 +54,7 @@ impl Weight {
     fn is_better(self, other: Weight, goal: Goal) -> bool {
         let closer = other.strays.exceeds(self.strays);
         match goal {
-            Goal::FewestBits => {
-                self.bits < other.bits || (self.bits == other.bits && closer)
-            }
+            Goal::FewestBits => { self.bits < other.bits || (self.bits == other.bits && closer) }
             Goal::LeastStraying => closer,
         }
     }
@@ -134,7 +130,9 @@ impl Spot {
     }
 
     fn dot(self, other: Spot) -> i64 {
-        self.x.wrapping_mul(other.x).wrapping_add(self.y.wrapping_mul(other.y))
+        self.x
+            .wrapping_mul(other.x)
+            .wrapping_add(self.y.wrapping_mul(other.y))
     }
 }
 
@@ -150,14 +148,18 @@ fn from_line(u: Spot, v: Spot, p: Spot) -> Ratio {
     }
     let along = v.dot(p);
     Ratio {
-        top: length.wrapping_mul(p.dot(p)).wrapping_sub(along.wrapping_mul(along)),
+        top: length
+            .wrapping_mul(p.dot(p))
+            .wrapping_sub(along.wrapping_mul(along)),
         bottom: length,
     }
 }
 
 // By the n-fold point and the n-fold place: |n p - (n - m) u - m v|² over n².
 fn from_pace(n: i64, m: i64, u: Spot, v: Spot, p: Spot) -> Ratio {
-    let lag = p.times(n).minus(u.times(n.wrapping_sub(m))).minus(v.times(m));
+    let lag = p.times(n)
+        .minus(u.times(n.wrapping_sub(m)))
+        .minus(v.times(m));
     Ratio {
         top: lag.dot(lag),
         bottom: n.wrapping_mul(n),

@@ -51,7 +51,15 @@ fn answer<C: Coder, M: Measure>(
     bottom: u64,
 ) -> Result<Told, u8> {
     let mut list = [KEPT; 17];
-    match cheapest(outline, coder, measure, top, bottom, &mut [priced_row(); 17], &mut list) {
+    match cheapest(
+        outline,
+        coder,
+        measure,
+        top,
+        bottom,
+        &mut [priced_row(); 17],
+        &mut list,
+    ) {
         Err(refusal) => Err(refusal.number()),
         Ok(found) => Ok(Told {
             list: [list[0], list[1], list[2], list[3]],
@@ -109,7 +117,10 @@ fn corner() -> Result<(), Fail> {
 #[test]
 fn no_code_and_way_back() -> Result<(), Fail> {
     check_eq(answer(&traced(&[7])?, &Axis, &Line, 0, 1), Err(26))?;
-    check_eq(answer(&traced(&[0, 4])?, &Flat, &Line, 1, 1), edge(2, 22, 1, 1))
+    check_eq(
+        answer(&traced(&[0, 4])?, &Flat, &Line, 1, 1),
+        edge(2, 22, 1, 1),
+    )
 }
 
 #[test]
