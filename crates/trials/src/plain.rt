@@ -1,7 +1,5 @@
 // The best polygon by trying each one. Prices and distances are worked out here, in other ways than the library's.
 use super::ratio::Ratio;
-use super::ratio::RatioDebug;
-use super::ratio::RatioPartialEq;
 use outline::Point;
 
 // How far a point strays: from the line through the ends, or from an even pace along the edge.
@@ -34,7 +32,7 @@ const UNUSABLE: Edge = Edge {
 // The edges between 16 points: that from i to j at 16 i + j.
 pub type Edges = [Edge; 256];
 
-#[derive(Clone, Copy, PartialEq, Eq, Debug)]
+#[derive(Clone, Copy)]
 pub struct Weight {
     pub bits: u32,
     pub strays: Ratio,

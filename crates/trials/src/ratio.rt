@@ -1,5 +1,5 @@
 // A squared distance of the trials, over its own bottom.
-#[derive(Clone, Copy, PartialEq, Eq, Debug)]
+#[derive(Clone, Copy, PartialEq, Eq)]
 pub struct Ratio {
     pub top: i64,
     pub bottom: i64,
