@@ -1,8 +1,8 @@
 -- Cheapest at the smallest deviation that fits is closest.
-use mathlib.Core.Bool.{true, false}
+use mathlib.Core.Bool.{false}
 use mathlib.Core.List.{List}
-use mathlib.Core.Logic.{_⊎_, inl, inr, ⊎-elim}
-use mathlib.Core.Path.{_≡_, refl, sym, ap, subst, _∙_}
+use mathlib.Core.Logic.{⊎-elim}
+use mathlib.Core.Path.{_≡_, sym, ap, _∙_}
 use Prim.Native.Nat.{ℕ, _<_, _≤_}
 use native.Mathlib.Omega.{arith}
 use lib.ListN.{length, take, drop}
@@ -17,7 +17,6 @@ use Rattle.measure.proofs.Widening.{not-above-itself}
 use Rattle.measure.specs.Deviation.{edge-deviation, polygon-deviation}
 use Rattle.measure.specs.Fractions.{above}
 use Rattle.measure.specs.Measures.{Strays}
-use Rattle.measure.specs.Order.{Equal}
 use Rattle.measure.specs.declared.fraction.Fraction.{Fraction}
 use Rattle.outline.specs.declared.point.Point.{Point}
 use Rattle.outline.specs.declared.refusal.Refusal.{Refusal}
@@ -25,7 +24,6 @@ use Rattle.search.proofs.Bests.{none-usable}
 use Rattle.search.specs.Best.{Best, NoneUsable}
 use Rattle.search.specs.Cheapest.{priced-cost, Cheapest-rule, Cheapest-best}
 use Rattle.search.specs.declared.by_price.PricedPolygon.{PricedPolygon}
-use Rattle.std.specs.declared.option.Option.{Option}
 use Rattle.std.specs.declared.option.Option.the-variants.{Some}
 use Rattle.std.specs.declared.result.Result.{Result}
 use Rattle.std.specs.declared.result.Result.the-variants.{Ok, Err}
@@ -35,7 +33,7 @@ use Rattle.weighing.specs.Edges.{edge-price, polygon-bits}
 use Rattle.weighing.specs.Weighers.{priced-weight}
 use Rattle.weighing.specs.declared.deviation.Deviation.{Deviation}
 use Rattle.closest.proofs.Fitting.{best-parts, best-fewest}
-use Rattle.closest.specs.Closest.{Fits, Smallest, Closest-rule, Closest-of, Closest-best}
+use Rattle.closest.specs.Closest.{Smallest, Closest-rule, Closest-of, Closest-best}
 
 module _ (codes : Table) (strays : Strays) (ps : List Point) (some : 0 < length ps) (few : length ps ≤ 256) (laws : Codes codes) (budget : ℕ) (d : Fraction) (small : Smallest codes strays ps budget d) where
   abbrev dev : List ℕ → Fraction

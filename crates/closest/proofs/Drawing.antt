@@ -1,11 +1,8 @@
 -- A sample with one more candidate.
-use mathlib.Core.List.{List}
-use mathlib.Core.Logic.{_⊎_, inl, inr, ⊎-elim}
-use mathlib.Core.Path.{_≡_, refl, sym, ap, subst, _∙_}
-use Prim.Native.Nat.{ℕ, _+_, _<_, _≤_}
+use mathlib.Core.Logic.{inl, inr, ⊎-elim}
+use mathlib.Core.Path.{_≡_, sym, ap, subst, _∙_}
+use Prim.Native.Nat.{ℕ, _+_}
 use native.Mathlib.Omega.{arith}
-use lib.ListN.{getD}
-use Rattle.measure.specs.Fractions.{zero as nought}
 use Rattle.measure.specs.declared.fraction.Fraction.{Fraction}
 use Rattle.std.proofs.shelf.Tests.{cases-lt}
 use Rattle.std.specs.declared.option.Option.{Option}
@@ -34,18 +31,6 @@ module _ (candidates : ℕ → ℕ → Option Fraction) where
       (λ high. let same-to = at .0 in let near = at .1 in let same : i ≡ from = omega arith in ap (λ k. candidates k j) same ∙ ap (candidates from) (at .0) ∙ e)
       (cases-lt i from))
       done
-
-  -- all edges to a point
-  pub drawn-next : (to : ℕ) (old : Option Sample) → Drawn candidates to to old → Drawn candidates (to + 1) 0 old
-  drawn-next to (Some old) h = h
-  drawn-next to None h = λ i j rises done.
-      ⊎-elim
-      (λ below. ⊎-elim (λ low. h i j rises (inl low)) (λ high. let same : j ≡ to = omega arith in h i j rises (inr (same, omega arith))) (cases-lt j to))
-      (λ at. let low = at .1 in absurd (omega arith))
-      done
-
-  pub drawn-none : Drawn candidates 0 0 None
-  drawn-none i j rises done = ⊎-elim (λ l. absurd (omega arith)) (λ at. let low = at .1 in absurd (omega arith)) done
 
   -- what a sample keeps is a candidate
   pub drawn-middle : (to from : ℕ) (o : Option Sample) (s : Sample) (x : Fraction) → Drawn candidates to from o → o ≡ Some s → Among s x → (i : ℕ) × (j : ℕ) × (candidates i j ≡ Some x)

@@ -1,18 +1,19 @@
 -- What the cost at a tolerance says of the polygons that fit a budget.
-use mathlib.Core.Bool.{true, false, cond}
+use mathlib.Core.Bool.{true, false}
 use mathlib.Core.List.{List}
 use mathlib.Core.Logic.{⊎-elim}
-use mathlib.Core.Path.{_≡_, refl, sym, ap, subst, subst₂, _∙_}
+use mathlib.Core.Path.{_≡_, sym, ap, subst, subst₂, _∙_}
 use Prim.Native.Nat.{ℕ, _-_, _*_, _^_, _<_, _≤_}
 use native.Mathlib.Nat.{mul-le-mul-left}
 use native.Mathlib.Omega.{arith}
-use lib.Dec.{ltb, leb}
-use lib.ListN.{length, drop}
+use lib.Dec.{leb}
+use lib.ListN.{length}
 use Rattle.coding.specs.Tables.{Table, Codes}
 use Rattle.cost.specs.Bits.{of-count}
 use Rattle.cost.specs.TwoPart.{both}
 use Rattle.cost.specs.declared.bits.Bits.{Bits}
 use Rattle.cost.specs.declared.two_part.TwoPart.{TwoPart}
+use Rattle.graph.specs.Rows.{Filled}
 use Rattle.graph.specs.declared.Row.{Row}
 use Rattle.measure.proofs.Numbers.{fraction-is}
 use Rattle.measure.specs.Deviation.{edge-deviation, polygon-deviation}
@@ -24,19 +25,18 @@ use Rattle.outline.specs.declared.refusal.Refusal.{Refusal}
 use Rattle.search.specs.Best.{Best, Least-cost, NoneUsable}
 use Rattle.search.specs.Cheapest.{priced-cost}
 use Rattle.search.specs.Rules.{Rows-filled}
-use Rattle.std.proofs.shelf.Tests.{cases-bool, both-ways, cond-both, le-ltb, leb-true, leb-false, ltb-false, or-parts}
+use Rattle.std.proofs.shelf.Tests.{cases-bool, cond-both, le-ltb, leb-true, leb-false, ltb-false, or-parts}
 use Rattle.std.specs.Results.{Cases}
 use Rattle.std.specs.declared.option.Option.{Option}
 use Rattle.std.specs.declared.option.Option.the-variants.{Some, None}
 use Rattle.std.specs.declared.result.Result.{Result}
-use Rattle.std.specs.declared.result.Result.the-variants.{Ok, Err}
 use Rattle.weighing.proofs.Costs.{priced-polygon}
 use Rattle.weighing.proofs.Usable.{priced-usable, usable-priced}
 use Rattle.weighing.specs.Deviations.{of-value}
 use Rattle.weighing.specs.Edges.{edge-price, polygon-bits}
 use Rattle.weighing.specs.Weighers.{priced-weight}
 use Rattle.weighing.specs.declared.deviation.Deviation.{Deviation}
-use Rattle.closest.specs.Closest.{Writes, Fits, Writes-none, All-over}
+use Rattle.closest.specs.Closest.{Writes, Writes-none, All-over, Left-at-largest}
 use Rattle.closest.specs.Gaps.{affordable, Reached, Too-low, Tried}
 
 -- no fraction is above the largest
@@ -92,7 +92,7 @@ module _ (codes : Table) (strays : Strays) (ps : List Point) (few : length ps �
     best-fewest vs c b us w low =
         let u = usable-priced codes strays ps (length ps) us laws t w low in
         let h : priced-cost .above c (both (of-count (bits us)) (of-value (dev us))) ≡ false =
-            subst (λ x. priced-cost .above c x ≡ false) (priced-polygon codes strays t ps us few u) (b .least us u) in
+        subst (λ x. priced-cost .above c x ≡ false) (priced-polygon codes strays t ps us few u) (b .least us u) in
         ltb-false (bits us) (c .first .count) (or-parts _ _ h .0)
 
     module _ (budget : ℕ) where
@@ -122,6 +122,9 @@ module _ (codes : Table) (strays : Strays) (ps : List Point) (few : length ps �
   module _ (t : Fraction) (most : t ≡ largest) (o : Option (TwoPart Bits Deviation)) (best : Least-cost priced-cost (priced-weight codes strays t ps) (length ps) o) where
     covers : (x : Fraction) → above x t ≡ false
     covers x = ap (above x) most ∙ largest-covers x
+
+    pub left-at-largest : (rows rows-after : List (Row (TwoPart Bits Deviation))) → Filled priced-cost (priced-weight codes strays t ps) (length ps) rows rows-after true → Left-at-largest codes strays ps rows rows-after
+    left-at-largest rows rows-after h = subst (λ x. Filled priced-cost (priced-weight codes strays x ps) (length ps) rows rows-after true) most h
 
     pub writes-none : o ≡ None → Writes-none codes ps
     writes-none e us w = subst (Least-cost priced-cost (priced-weight codes strays t ps) (length ps)) e best us (usable-priced codes strays ps (length ps) us laws t w (covers (dev us)))

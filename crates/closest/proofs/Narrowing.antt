@@ -1,7 +1,7 @@
 -- A gap that narrows: which edges are still inside, and what is known when none is.
-use mathlib.Core.Bool.{Bool, true, false, cond, _&&_}
+use mathlib.Core.Bool.{true, false}
 use mathlib.Core.List.{List, [], _∷_}
-use mathlib.Core.Logic.{_⊎_, inl, inr, ⊎-elim}
+use mathlib.Core.Logic.{⊎-elim}
 use mathlib.Core.Path.{_≡_, refl, sym, ap, subst, _∙_}
 use Prim.Native.Nat.{ℕ, zero, suc, _+_, _-_, _<_, _≤_}
 use native.Mathlib.Omega.{arith}
@@ -15,9 +15,9 @@ use Rattle.measure.specs.Deviation.{edge-deviation, polygon-deviation}
 use Rattle.measure.specs.Fractions.{zero as nought, above}
 use Rattle.measure.specs.Measures.{Strays}
 use Rattle.measure.specs.declared.fraction.Fraction.{Fraction}
-use Rattle.outline.specs.Polygon.{Polygon, edges}
+use Rattle.outline.specs.Polygon.{edges}
 use Rattle.outline.specs.declared.point.Point.{Point}
-use Rattle.std.proofs.shelf.Tests.{and-from, and-parts, and-left, and-right, both-ways, cases-bool, cases-lt, cond-both, cond-false, cond-true, ltb-true}
+use Rattle.std.proofs.shelf.Tests.{and-from, and-parts, and-left, and-right, both-ways, cases-bool, cases-lt, cond-false, cond-true, ltb-true}
 use Rattle.std.specs.Options.{andOther, isSome}
 use Rattle.std.specs.declared.option.Option.{Option}
 use Rattle.std.specs.declared.option.Option.the-variants.{Some, None}
@@ -25,8 +25,8 @@ use Rattle.std.specs.shelf.Lists.{All}
 use Rattle.weighing.proofs.Costs.{polygon-length}
 use Rattle.weighing.proofs.EdgeWeights.{deviation-has, price-edge}
 use Rattle.weighing.specs.Edges.{edge-price}
-use Rattle.closest.specs.Closest.{Writes, Fits, Smallest}
-use Rattle.closest.specs.Gaps.{Reached, Too-low, Tried, past, inside, kept-inside, candidate, Next}
+use Rattle.closest.specs.Closest.{Fits, Smallest}
+use Rattle.closest.specs.Gaps.{Reached, Too-low, past, inside, kept-inside, candidate, Next}
 use Rattle.closest.specs.declared.gap.Gap.{Gap}
 
 -- one fraction above another that is above a third

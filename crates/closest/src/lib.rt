@@ -23,6 +23,8 @@ mod gap;
 mod sample;
 mod sampling;
 mod smallest;
+#[cfg(test)]
+mod tests;
 mod tries;
 
 // Cheapest at the smallest deviation of any polygon that the coder can write within the budget.
@@ -45,5 +47,13 @@ pub(crate) fn closest<'a, C: Coder, M: Measure>(
         return Err(Refusal::OverBudget);
     }
     let d = smallest_deviation(outline, coder, measure, budget, cost.second.value, rows)?;
-    cheapest(outline, coder, measure, d.top(), d.bottom() as u64, rows, list)
+    cheapest(
+        outline,
+        coder,
+        measure,
+        d.top(),
+        d.bottom() as u64,
+        rows,
+        list,
+    )
 }

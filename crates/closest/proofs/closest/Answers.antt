@@ -1,5 +1,5 @@
 use mathlib.Core.Logic.{inl, inr}
-use mathlib.Core.Path.{_≡_, refl, sym, subst, _∙_}
+use mathlib.Core.Path.{refl, subst, _∙_}
 use Prim.Native.Nat.{_<_, _≤_}
 use native.Mathlib.Omega.{arith}
 use lib.ListN.{length}
@@ -8,12 +8,7 @@ use Rattle.outline.specs.Plain.{plain}
 use Rattle.search.proofs.Lasts.{room-fits}
 use Rattle.search.specs.Cheapest.{Cheapest-rule, Cheapest-best}
 use Rattle.closest.proofs.Answering.{closest-rule, closest-best}
-use Rattle.closest.proofs.Fitting.{made-again, writes-none, all-over, reached-first}
-use Rattle.closest.specs.Closest.{Left-at-largest}
-use Rattle.graph.specs.Rows.{Filled}
-use mathlib.Core.Bool.{true}
-use Rattle.search.specs.Cheapest.{priced-cost}
-use Rattle.weighing.specs.Weighers.{priced-weight}
+use Rattle.closest.proofs.Fitting.{made-again, left-at-largest, writes-none, all-over, reached-first}
 use Rattle.closest.proofs.closest.Needs as need
 
 pub returns-in-rest : need.returns-in-rest
@@ -22,11 +17,14 @@ returns-in-rest g c =
     let ps = plain o .points in
     let codes = g .C·Coder .table (c .args .coder .now) in
     let strays = g .M·Measure .strays (c .args .measure .now) in
+    let few = rules-of o .count .1 in
+    let laws = g .C·Coder·met .codes (c .args .coder .now) in
     let h = c .in-Continue-cost .ensures tt in
+    let cost = c .in-Continue-cost .field-0 in
+    let t = c .largest .result in
     let fits = room-fits (length ps) (length (c .args .rows .now)) (length (c .args .list .now)) _ (c .in-Continue-check-room .ensures tt) in
-    let left : Left-at-largest codes strays ps (c .args .rows .now) (c .fill-at .last .rows) =
-        subst (λ t. Filled priced-cost (priced-weight codes strays t ps) (length ps) (c .args .rows .now) (c .fill-at .last .rows) true) (c .largest .ensures) (h .rule .0) in
-    let none = writes-none codes strays ps (rules-of o .count .1) (g .C·Coder·met .codes (c .args .coder .now)) (c .largest .result) (c .largest .ensures) (c .in-Continue-cost .field-0) (h .best) (c .in-rest .is) in
+    let left = left-at-largest codes strays ps few laws t (c .largest .ensures) cost (h .best) (c .args .rows .now) (c .fill-at .last .rows) (h .rule .0) in
+    let none = writes-none codes strays ps few laws t (c .largest .ensures) cost (h .best) (c .in-rest .is) in
     record { rule = inr (inr (inl (refl, fits .1, none, left, refl))); best = λ _ _. inl (refl, none) }
 
 pub returns-then-cost-budget : need.returns-then-cost-budget
@@ -35,11 +33,14 @@ returns-then-cost-budget g c =
     let ps = plain o .points in
     let codes = g .C·Coder .table (c .args .coder .now) in
     let strays = g .M·Measure .strays (c .args .measure .now) in
+    let few = rules-of o .count .1 in
+    let laws = g .C·Coder·met .codes (c .args .coder .now) in
     let h = c .in-Continue-cost .ensures tt in
+    let cost = c .in-Continue-cost .field-0 in
+    let t = c .largest .result in
     let fits = room-fits (length ps) (length (c .args .rows .now)) (length (c .args .list .now)) _ (c .in-Continue-check-room .ensures tt) in
-    let left : Left-at-largest codes strays ps (c .args .rows .now) (c .fill-at .last .rows) =
-        subst (λ t. Filled priced-cost (priced-weight codes strays t ps) (length ps) (c .args .rows .now) (c .fill-at .last .rows) true) (c .largest .ensures) (h .rule .0) in
-    let over = all-over codes strays ps (rules-of o .count .1) (g .C·Coder·met .codes (c .args .coder .now)) (c .largest .result) (c .largest .ensures) (c .in-Continue-cost .field-0) (h .best) (c .args .budget) (c .in-Some .cost) (c .in-Some .is) (c .if-cost-budget .taken) in
+    let left = left-at-largest codes strays ps few laws t (c .largest .ensures) cost (h .best) (c .args .rows .now) (c .fill-at .last .rows) (h .rule .0) in
+    let over = all-over codes strays ps few laws t (c .largest .ensures) cost (h .best) (c .args .budget) (c .in-Some .cost) (c .in-Some .is) (c .if-cost-budget .taken) in
     record { rule = inr (inr (inr (refl, fits .1, over, left, refl))); best = λ _ _. inr (refl, over) }
 
 pub smallest-deviation-requires : need.smallest-deviation-requires

@@ -1,6 +1,5 @@
-use mathlib.Core.Path.{sym, subst}
 use Rattle.outline.specs.Plain.{plain}
-use Rattle.closest.specs.Gaps.{candidate, Drawn}
+use Rattle.closest.specs.Gaps.{candidate}
 use Rattle.closest.proofs.Drawing.{drawn-middle}
 use Rattle.closest.proofs.choice.next_tolerance.Needs as need
 
