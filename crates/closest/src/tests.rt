@@ -1,4 +1,6 @@
 use crate::closest;
+use coding::Axis;
+use coding::AxisCoder;
 use coding::Run;
 use coding::RunCoder;
 use cost::bits::Bits;
@@ -106,6 +108,21 @@ fn refused_for_room() -> Result<(), Fail> {
     let short = closest(&outline, &Run, &Line, 12, &mut rows, &mut [9; 4]);
     check_eq(number(short), 23)?;
     check_eq(rows[4].predecessor, 7)
+}
+
+// A diagonal step has no code by axis, whatever the budget.
+#[test]
+fn nothing_to_write() -> Result<(), Fail> {
+    let mut outline = Outline::new();
+    outline.open(32, 32, 5, 5)?;
+    outline.extend(7)?;
+    let mut rows = [junk(); 3];
+    let mut list = [9; 2];
+    let answer = closest(&outline, &Axis, &Line, 0, &mut rows, &mut list);
+    check_eq(number(answer), 26)?;
+    check_eq(list, [9, 9])?;
+    check(!rows[1].reached)?;
+    check_eq(rows[2].predecessor, 7)
 }
 
 // One point is a polygon with no edge, for which no bits are needed.
