@@ -1,0 +1,4 @@
+pub mod Answering
+pub mod Drawing
+pub mod Fitting
+pub mod Narrowing
