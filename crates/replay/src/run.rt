@@ -1,10 +1,10 @@
 ghost use mathlib.Core.Path.{_≡_};
-ghost use Prim.Native.Nat.{min};
 ghost use lib.ListN.{length, take, drop};
 ghost use Rattle.outline.specs.Plain.{plain};
 ghost use Rattle.outline.specs.Rules.{Rules};
 ghost use Rattle.replay.specs.Right.{state, tools};
 ghost use Rattle.replay.specs.Runs.{Run};
+ghost use Rattle.replay.specs.Traced.{As-traced};
 use crate::call::Call;
 use crate::entry::Entry;
 use crate::entry::note;
@@ -33,6 +33,7 @@ pub fn replay<'a, W: Weigher, C: Coder, M: Measure>(
 )
     ensures run { λ _. ⌜ Run (tools (Cost·Cost .cost) (W·Weigher .weight (now (weigher .entry))) (C·Coder .table (now (coder .entry))) (M·Measure .strays (now (measure .entry)))) (state (now (outline .entry)) (now (rows .entry)) (now (priced .entry)) (now (straying .entry)) (now (list .entry))) (take (length (now (entries .entry))) (now (calls .entry))) (take (length (now (calls .entry))) (now (entries .exit))) (state (now (outline .exit)) (now (rows .exit)) (now (priced .exit)) (now (straying .exit)) (now (list .exit))) ⌝ }
     ensures further { λ _. ⌜ drop (length (now (calls .entry))) (now (entries .exit)) ≡ drop (length (now (calls .entry))) (now (entries .entry)) ⌝ }
+    ensures traced { λ _. ⌜ As-traced (plain (now (outline .entry))) (take (length (now (entries .entry))) (now (calls .entry))) (take (length (now (calls .entry))) (now (entries .exit))) (plain (now (outline .exit))) ⌝ }
     ensures rules { λ _. ⌜ Rules (plain (now (outline .exit))) ⌝ }
 {
     for i in 0..calls.len() {
