@@ -6,6 +6,7 @@ use mathlib.Core.Path.{_≡_, refl, sym, ap, subst, subst₂, _∙_}
 use native.Mathlib.Omega.{arith}
 use lib.ListN.{length, getD, set, take, drop, length-set}
 use Rattle.std.proofs.shelf.Lists.{take-more, take-more-set, take-all, drop-all, drop-drop, drop-set-lt}
+use Rattle.outline.specs.Rules.{Rules}
 use Rattle.replay.specs.Right.{Tools, State, Right}
 use Rattle.replay.specs.Runs.{noted, Same-lengths, Run}
 use Rattle.replay.specs.Runs.Run.{done, step}
@@ -14,14 +15,14 @@ use Rattle.replay.specs.declared.call.Call.{Call}
 use Rattle.replay.specs.declared.entry.Entry.{Entry}
 
 module _ {C W : Type 0} (t : Tools C W) where
-  pub run-push : {s u : State C} {cs : List Call} {es : List (Entry C)} (v : State C) (c : Call) (a : Answer C) → Run t s cs es u → Right t u c a v → Same-lengths u v → Run t s (cs ++ c ∷ []) (es ++ noted a (v .list) ∷ []) v
-  run-push v c a done n k = step n k done
-  run-push v c a (step m l r) n k = step m l (run-push v c a r n k)
+  pub run-push : {s u : State C} {cs : List Call} {es : List (Entry C)} (v : State C) (c : Call) (a : Answer C) → Run t s cs es u → Right t u c a v → Same-lengths u v → Rules (v .outline) → Run t s (cs ++ c ∷ []) (es ++ noted a (v .list) ∷ []) v
+  run-push v c a (done o) n k w = step o n k (done w)
+  run-push v c a (step o m l r) n k w = step o m l (run-push v c a r n k w)
 
   pub run-more : (s u v : State C) (cs : List Call) (es : List (Entry C)) (i : ℕ) (d : Call) (a : Answer C) → i < length cs → i < length es
-      → Run t s (take i cs) (take i es) u → Right t u (getD cs i d) a v → Same-lengths u v → Run t s (take (i + 1) cs) (take (i + 1) (set es i (noted a (v .list)))) v
-  run-more s u v cs es i d a l m r n k =
-      subst₂ (λ xs ys. Run t s xs ys v) (sym (take-more cs i d l)) (sym (take-more-set es i (noted a (v .list)) m)) (run-push v (getD cs i d) a r n k)
+      → Run t s (take i cs) (take i es) u → Right t u (getD cs i d) a v → Same-lengths u v → Rules (v .outline) → Run t s (take (i + 1) cs) (take (i + 1) (set es i (noted a (v .list)))) v
+  run-more s u v cs es i d a l m r n k w =
+      subst₂ (λ xs ys. Run t s xs ys v) (sym (take-more cs i d l)) (sym (take-more-set es i (noted a (v .list)) m)) (run-push v (getD cs i d) a r n k w)
 
   -- the loop ends at the last call or at the last entry
   pub run-ended : (s u : State C) (cs : List Call) (es : List (Entry C)) (i n : ℕ) → length es ≡ n → i ≤ length cs → i ≤ n → (length cs ≤ i) ⊎ (n ≤ i)

@@ -39,8 +39,8 @@ module _ {C W : Type 0} (t : Tools C W) where
   one s u (Closest budget) a ts rs r e = let b = by-search s u ts rs (r .2 .outline) e in (b .0, ap (λ x. traced-answer x rs) (r .1) ∙ b .1)
 
   pub as-traced : {s v : State C} {cs : List Call} {es : List (Entry C)} → Run t s cs es v → As-traced (s .outline) cs es (v .outline)
-  as-traced done = record { outline = refl; said = refl }
-  as-traced (step {s} {u} {v} {c} {a} {cs} {es} n k r) =
+  as-traced (done o) = record { outline = refl; said = refl }
+  as-traced (step {s} {u} {v} {c} {a} {cs} {es} o n k r) =
       let more = as-traced r in
       let b = one s u c a (traced-calls cs) (traced-answers es) n (more .said) in
       record { outline = more .outline ∙ b .0; said = b .1 }

@@ -10,3 +10,5 @@ mod call;
 mod entry;
 mod make;
 mod run;
+#[cfg(test)]
+mod tests;

@@ -12,7 +12,7 @@ use Rattle.replay.specs.Runs.Run.{done}
 use Rattle.replay.proofs.run.replay.Needs as need
 
 pub loop-i-holds : need.loop-i-holds
-loop-i-holds g c = (omega arith, done, refl)
+loop-i-holds g c = (omega arith, done (rules-of (c .args .outline .now)), refl)
 
 pub loop-i-again : need.loop-i-again
 loop-i-again g c =
@@ -25,7 +25,7 @@ loop-i-again g c =
     let u = state (c .make-call-answer .last .outline) (c .make-call-answer .last .rows) (c .make-call-answer .last .priced) (c .make-call-answer .last .straying) (c .make-call-answer .last .list) in
     let lengths : Same-lengths (state (c .loop-i .outline) (c .loop-i .rows) (c .loop-i .priced) (c .loop-i .straying) (c .loop-i .list)) u = record { rows = c .make-call-answer .kept .rows; priced = c .make-call-answer .kept .priced; straying = c .make-call-answer .kept .straying; list = c .make-call-answer .kept .list } in (
       omega arith,
-      subst (λ xs. Run t s (take (i + 1) cs) (take (i + 1) xs) u) (sym (c .note .ensures)) (run-more t s _ u cs es i _ a (omega arith) (omega arith) (c .loop-i .inv .1) (c .make-call-answer .ensures) lengths),
+      subst (λ xs. Run t s (take (i + 1) cs) (take (i + 1) xs) u) (sym (c .note .ensures)) (run-more t s _ u cs es i _ a (omega arith) (omega arith) (c .loop-i .inv .1) (c .make-call-answer .ensures) lengths (rules-of (c .make-call-answer .last .outline))),
       ap (drop (i + 1)) (c .note .ensures) ∙ kept-more t (c .args .entries .now) es i (noted a (u .list)) (c .loop-i .inv .2),
     )
 
