@@ -28,7 +28,7 @@ mod tests;
 mod tries;
 
 // Cheapest at the smallest deviation of any polygon that the coder can write within the budget.
-pub(crate) fn closest<'a, C: Coder, M: Measure>(
+pub fn closest<'a, C: Coder, M: Measure>(
     outline: &Outline,
     coder: &'a C,
     measure: &'a M,
