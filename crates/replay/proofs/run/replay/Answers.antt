@@ -26,7 +26,7 @@ loop-i-again g c =
     let lengths : Same-lengths (state (c .loop-i .outline) (c .loop-i .rows) (c .loop-i .priced) (c .loop-i .straying) (c .loop-i .list)) u = record { rows = c .make-call-answer .kept .rows; priced = c .make-call-answer .kept .priced; straying = c .make-call-answer .kept .straying; list = c .make-call-answer .kept .list } in (
       omega arith,
       subst (λ xs. Run t s (take (i + 1) cs) (take (i + 1) xs) u) (sym (c .note .ensures)) (run-more t s _ u cs es i _ a (omega arith) (omega arith) (c .loop-i .inv .1) (c .make-call-answer .ensures) lengths (rules-of (c .make-call-answer .last .outline))),
-      ap (drop (i + 1)) (c .note .ensures) ∙ kept-more t (c .args .entries .now) es i (noted a (u .list)) (c .loop-i .inv .2),
+      ap (drop (i + 1)) (c .note .ensures) ∙ kept-more (c .args .entries .now) es i (noted a (u .list)) (c .loop-i .inv .2),
     )
 
 pub returns-after-loop-i : need.returns-after-loop-i
@@ -39,7 +39,7 @@ returns-after-loop-i g c =
     record {
       run = run;
       traced = as-traced t run;
-      further = kept-ended t old es (c .loop-i .i) (length cs) (c .loop-i .kept .entries) (omega arith) (inl (c .loop-i-test .left)) (c .loop-i .inv .2);
+      further = kept-ended old es (c .loop-i .i) (length cs) (c .loop-i .kept .entries) (omega arith) (inl (c .loop-i-test .left)) (c .loop-i .inv .2);
       rules = rules-of (c .loop-i .outline);
     }
 
@@ -54,6 +54,6 @@ returns-then-i-entries g c =
     record {
       run = run;
       traced = as-traced t run;
-      further = kept-ended t old es (c .loop-i .i) (length cs) (c .loop-i .kept .entries) (omega arith) (inr full) (c .loop-i .inv .2);
+      further = kept-ended old es (c .loop-i .i) (length cs) (c .loop-i .kept .entries) (omega arith) (inr full) (c .loop-i .inv .2);
       rules = rules-of (c .loop-i .outline);
     }
