@@ -4,6 +4,7 @@ use Prim.Native.Nat.{_+_, _≤_}
 use native.Mathlib.Omega.{arith}
 use lib.ListN.{length, take, drop}
 use Rattle.outline.proofs.Kept.{rules-of}
+use Rattle.replay.proofs.Amply.{best-run}
 use Rattle.replay.proofs.Steps.{run-more, run-ended, kept-more, kept-ended}
 use Rattle.replay.proofs.Tracing.{as-traced}
 use Rattle.replay.specs.Right.{tools, state}
@@ -38,6 +39,7 @@ returns-after-loop-i g c =
     let run = run-ended t _ _ cs es (c .loop-i .i) (length old) (c .loop-i .kept .entries) (omega arith) (omega arith) (inl (c .loop-i-test .left)) (c .loop-i .inv .1) in
     record {
       run = run;
+      best = λ ample. best-run t ample run;
       traced = as-traced t run;
       further = kept-ended old es (c .loop-i .i) (length cs) (c .loop-i .kept .entries) (omega arith) (inl (c .loop-i-test .left)) (c .loop-i .inv .2);
       rules = rules-of (c .loop-i .outline);
@@ -53,6 +55,7 @@ returns-then-i-entries g c =
     let run = run-ended t _ _ cs es (c .loop-i .i) (length old) (c .loop-i .kept .entries) (omega arith) (omega arith) (inr full) (c .loop-i .inv .1) in
     record {
       run = run;
+      best = λ ample. best-run t ample run;
       traced = as-traced t run;
       further = kept-ended old es (c .loop-i .i) (length cs) (c .loop-i .kept .entries) (omega arith) (inr full) (c .loop-i .inv .2);
       rules = rules-of (c .loop-i .outline);
