@@ -9,7 +9,6 @@ use Rattle.outline.specs.Plain.{Plain, opened, extended, retracted, answer}
 use Rattle.outline.specs.Runs.{after}
 use Rattle.outline.specs.declared.refusal.Refusal.{Refusal}
 use Rattle.replay.specs.Right.{Tools, State}
-use Rattle.replay.specs.Runs.{noted}
 use Rattle.replay.specs.Traced.{traced-call}
 use Rattle.replay.specs.declared.answer.Answer.{Answer}
 use Rattle.replay.specs.declared.answer.Answer.the-variants.{Traced, Least as least-said, Cheapest as cheapest-said, Finest as finest-said, Closest as closest-said}
@@ -48,7 +47,7 @@ Best-said t p Finest a list =
 Best-said t p (Closest budget) a list =
     (r : Result PricedPolygon Refusal) × (a ≡ closest-said r) × Closest-best (t .codes) (t .strays) budget (p .points) list r
 
--- A best run: each call finds the plain outline after the calls before it, and is noted with a best answer.
+-- A best run: each call finds the plain outline after the calls before it, and its entry has a best answer and its polygon.
 pub data Best-run {C W : Type 0} (t : Tools C W) : Plain → List Call → List (Entry C) → Type 0 where
   done : {p : Plain} → Best-run t p [] []
-  step : {p : Plain} {c : Call} {a : Answer C} {cs : List Call} {es : List (Entry C)} (list : List ℕ) → Best-said t p c a list → Best-run t (after p (traced-call c [])) cs es → Best-run t p (c ∷ cs) (noted a list ∷ es)
+  step : {p : Plain} {c : Call} {e : Entry C} {cs : List Call} {es : List (Entry C)} → Best-said t p c (e .answer) (e .list) → Best-run t (after p (traced-call c [])) cs es → Best-run t p (c ∷ cs) (e ∷ es)
