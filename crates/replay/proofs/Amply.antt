@@ -1,11 +1,10 @@
 -- A run with ample rows and list places is a best run.
-use mathlib.Core.List.{List, [], _∷_}
+use mathlib.Core.List.{List, []}
 use mathlib.Core.Path.{_≡_, subst}
-use Prim.Native.Nat.{ℕ, _≤_}
+use Prim.Native.Nat.{_≤_}
 use native.Mathlib.Omega.{arith}
 use lib.ListN.{length}
 use Rattle.measure.specs.Fractions.{fraction}
-use Rattle.outline.specs.Rules.{Rules}
 use Rattle.outline.specs.Runs.{after}
 use Rattle.replay.proofs.Shown.{best-shown, finest-shown, cheapest-shown, closest-shown}
 use Rattle.replay.specs.Ample.{Ample, Best-said, Best-run}

@@ -1,8 +1,8 @@
 -- The front of a long list shows the polygon that the list begins with.
-use mathlib.Core.List.{List, [], _++_}
+use mathlib.Core.List.{List, _++_}
 use mathlib.Core.Logic.{⊎-elim}
 use mathlib.Core.Path.{_≡_, sym, ap, subst, _∙_}
-use Prim.Native.Nat.{ℕ, _-_, _≤_, _<_}
+use Prim.Native.Nat.{ℕ, _-_, _≤_}
 use native.Mathlib.Omega.{arith}
 use lib.ListN.{length, take, replicate, length-take}
 use Rattle.closest.specs.Closest.{Closest-best, Closest-of}
@@ -17,7 +17,7 @@ use Rattle.outline.specs.declared.refusal.Refusal.{Refusal}
 use Rattle.replay.specs.Runs.{front}
 use Rattle.search.proofs.Polygons.{polygon-rising, rising-short}
 use Rattle.search.specs.Best.{Best, Best-answered}
-use Rattle.search.specs.Cheapest.{Cheapest-best, Own-numbers, Own-deviation, finest-found, cheapest-found, priced-cost}
+use Rattle.search.specs.Cheapest.{Cheapest-best, Own-deviation, finest-found}
 use Rattle.search.specs.declared.Found.{Found}
 use Rattle.search.specs.declared.by_price.PricedPolygon.{PricedPolygon}
 use Rattle.search.specs.declared.by_straying.StrayingPolygon.{StrayingPolygon}
