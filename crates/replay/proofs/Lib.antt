@@ -1,3 +1,5 @@
 pub mod Places
 pub mod Steps
 pub mod Tracing
+pub mod Amply
+pub mod Shown

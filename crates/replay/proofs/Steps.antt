@@ -2,9 +2,9 @@
 use Prim.Native.Nat.{ℕ, _+_, _<_, _≤_}
 use mathlib.Core.List.{List, [], _∷_, _++_}
 use mathlib.Core.Logic.{_⊎_, ⊎-elim}
-use mathlib.Core.Path.{_≡_, refl, sym, ap, subst, subst₂, _∙_}
+use mathlib.Core.Path.{_≡_, sym, ap, subst, subst₂, _∙_}
 use native.Mathlib.Omega.{arith}
-use lib.ListN.{length, getD, set, take, drop, length-set}
+use lib.ListN.{length, getD, set, take, drop}
 use Rattle.std.proofs.shelf.Lists.{take-more, take-more-set, take-all, drop-all, drop-drop, drop-set-lt}
 use Rattle.outline.specs.Rules.{Rules}
 use Rattle.replay.specs.Right.{Tools, State, Right}
@@ -32,12 +32,13 @@ module _ {C W : Type 0} (t : Tools C W) where
       let entries : take i es ≡ take (length cs) es = ⊎-elim (λ k. ap (λ j. take j es) (omega arith)) (λ k. take-all i es (omega arith) ∙ sym (take-all (length cs) es (omega arith))) end in
       subst₂ (λ xs ys. Run t s xs ys u) calls entries r
 
-  pub kept-ended : (old es : List (Entry C)) (i n : ℕ) → length es ≡ length old → i ≤ n → (n ≤ i) ⊎ (length old ≤ i) → drop i es ≡ drop i old → drop n es ≡ drop n old
+module _ {X : Type 0} where
+  pub kept-ended : (old es : List X) (i n : ℕ) → length es ≡ length old → i ≤ n → (n ≤ i) ⊎ (length old ≤ i) → drop i es ≡ drop i old → drop n es ≡ drop n old
   kept-ended old es i n long l end e =
       ⊎-elim
       (λ k. let same : i ≡ n = omega arith in subst (λ j. drop j es ≡ drop j old) same e)
       (λ k. drop-all n es (omega arith) ∙ sym (drop-all n old (omega arith)))
       end
 
-  pub kept-more : (old es : List (Entry C)) (i : ℕ) (e : Entry C) → drop i es ≡ drop i old → drop (i + 1) (set es i e) ≡ drop (i + 1) old
+  pub kept-more : (old es : List X) (i : ℕ) (e : X) → drop i es ≡ drop i old → drop (i + 1) (set es i e) ≡ drop (i + 1) old
   kept-more old es i e k = drop-set-lt (i + 1) es i e (omega arith) ∙ sym (drop-drop 1 i es) ∙ ap (drop 1) k ∙ drop-drop 1 i old

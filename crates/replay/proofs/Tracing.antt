@@ -1,13 +1,13 @@
 -- A run is the run of its calls of open, extend and retract.
-use mathlib.Core.List.{List, [], _∷_}
-use mathlib.Core.Path.{_≡_, refl, sym, ap, _∙_}
-use Rattle.outline.specs.Plain.{Plain, answer, left-by}
+use mathlib.Core.List.{List, _∷_}
+use mathlib.Core.Path.{_≡_, refl, ap, _∙_}
+use Rattle.outline.specs.Plain.{answer}
 use Rattle.outline.specs.Runs.{after, answers, made}
 use Rattle.outline.specs.declared.call.Call.{Call as Trace}
 use Rattle.outline.specs.declared.call.Call.the-variants.{Open as open-call, Extend as extend-call, Retract as retract-call}
 use Rattle.outline.specs.declared.refusal.Refusal.{Refusal}
 use Rattle.replay.specs.Right.{Tools, State, Right, Traced-right}
-use Rattle.replay.specs.Runs.{noted, Run}
+use Rattle.replay.specs.Runs.{Run}
 use Rattle.replay.specs.Runs.Run.{done, step}
 use Rattle.replay.specs.Traced.{traced-call, traced-calls, traced-answer, traced-answers, As-traced}
 use Rattle.replay.specs.declared.answer.Answer.{Answer}

@@ -1,3 +1,4 @@
 pub mod Right
 pub mod Runs
 pub mod Traced
+pub mod Ample

@@ -1,4 +1,4 @@
--- When the answer to one call is right.
+-- When the answer to a call is right.
 use mathlib.Core.List.{List}
 use mathlib.Core.Path.{_≡_}
 use Prim.Native.Nat.{ℕ, _≤_}

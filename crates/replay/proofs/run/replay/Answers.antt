@@ -4,6 +4,7 @@ use Prim.Native.Nat.{_+_, _≤_}
 use native.Mathlib.Omega.{arith}
 use lib.ListN.{length, take, drop}
 use Rattle.outline.proofs.Kept.{rules-of}
+use Rattle.replay.proofs.Amply.{best-run}
 use Rattle.replay.proofs.Steps.{run-more, run-ended, kept-more, kept-ended}
 use Rattle.replay.proofs.Tracing.{as-traced}
 use Rattle.replay.specs.Right.{tools, state}
@@ -26,7 +27,7 @@ loop-i-again g c =
     let lengths : Same-lengths (state (c .loop-i .outline) (c .loop-i .rows) (c .loop-i .priced) (c .loop-i .straying) (c .loop-i .list)) u = record { rows = c .make-call-answer .kept .rows; priced = c .make-call-answer .kept .priced; straying = c .make-call-answer .kept .straying; list = c .make-call-answer .kept .list } in (
       omega arith,
       subst (λ xs. Run t s (take (i + 1) cs) (take (i + 1) xs) u) (sym (c .note .ensures)) (run-more t s _ u cs es i _ a (omega arith) (omega arith) (c .loop-i .inv .1) (c .make-call-answer .ensures) lengths (rules-of (c .make-call-answer .last .outline))),
-      ap (drop (i + 1)) (c .note .ensures) ∙ kept-more t (c .args .entries .now) es i (noted a (u .list)) (c .loop-i .inv .2),
+      ap (drop (i + 1)) (c .note .ensures) ∙ kept-more (c .args .entries .now) es i (noted a (u .list)) (c .loop-i .inv .2),
     )
 
 pub returns-after-loop-i : need.returns-after-loop-i
@@ -38,8 +39,9 @@ returns-after-loop-i g c =
     let run = run-ended t _ _ cs es (c .loop-i .i) (length old) (c .loop-i .kept .entries) (omega arith) (omega arith) (inl (c .loop-i-test .left)) (c .loop-i .inv .1) in
     record {
       run = run;
+      best = λ ample. best-run t ample run;
       traced = as-traced t run;
-      further = kept-ended t old es (c .loop-i .i) (length cs) (c .loop-i .kept .entries) (omega arith) (inl (c .loop-i-test .left)) (c .loop-i .inv .2);
+      further = kept-ended old es (c .loop-i .i) (length cs) (c .loop-i .kept .entries) (omega arith) (inl (c .loop-i-test .left)) (c .loop-i .inv .2);
       rules = rules-of (c .loop-i .outline);
     }
 
@@ -53,7 +55,8 @@ returns-then-i-entries g c =
     let run = run-ended t _ _ cs es (c .loop-i .i) (length old) (c .loop-i .kept .entries) (omega arith) (omega arith) (inr full) (c .loop-i .inv .1) in
     record {
       run = run;
+      best = λ ample. best-run t ample run;
       traced = as-traced t run;
-      further = kept-ended t old es (c .loop-i .i) (length cs) (c .loop-i .kept .entries) (omega arith) (inr full) (c .loop-i .inv .2);
+      further = kept-ended old es (c .loop-i .i) (length cs) (c .loop-i .kept .entries) (omega arith) (inr full) (c .loop-i .inv .2);
       rules = rules-of (c .loop-i .outline);
     }
