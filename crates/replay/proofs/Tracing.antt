@@ -20,8 +20,8 @@ module _ {C W : Type 0} (t : Tools C W) where
   by-tracing : (s u : State C) (a : Answer C) (c : Trace) (ts : List Trace) (rs : List (Result (Unit {0}) Refusal)) → Traced-right s (made (s .outline) c) a u → rs ≡ answers (u .outline) ts
       → (after (u .outline) ts ≡ after (s .outline) (c ∷ ts)) × (traced-answer a rs ≡ answers (s .outline) (c ∷ ts))
   by-tracing s u a c ts rs r e = (
-      ap (λ p. after p ts) (r .outline),
-      ap (λ x. traced-answer x rs) (r .said) ∙ ap (λ xs. answer (made (s .outline) c) ∷ xs) (e ∙ ap (λ p. answers p ts) (r .outline)),
+    ap (λ p. after p ts) (r .outline),
+    ap (λ x. traced-answer x rs) (r .said) ∙ ap (λ xs. answer (made (s .outline) c) ∷ xs) (e ∙ ap (λ p. answers p ts) (r .outline)),
   )
 
   by-search : (s u : State C) (ts : List Trace) (rs : List (Result (Unit {0}) Refusal)) → u .outline ≡ s .outline → rs ≡ answers (u .outline) ts

@@ -43,7 +43,15 @@ pub fn replay<'a, W: Weigher, C: Coder, M: Measure>(
             break;
         }
         let answer = make_call(
-            outline, weigher, coder, measure, calls[i], rows, priced, straying, list,
+            outline,
+            weigher,
+            coder,
+            measure,
+            calls[i],
+            rows,
+            priced,
+            straying,
+            list,
         );
         note(entries, i, answer, list);
     }
