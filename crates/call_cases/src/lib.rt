@@ -1,4 +1,6 @@
-// Worked cases of scripts, of the programs that write and read records, and of what C is told.
+//! Worked cases of scripts, of the programs that write and read records, and of what C is told.
+#![tactic(auto)]
+
 #[cfg(test)]
 mod c_calls;
 #[cfg(test)]

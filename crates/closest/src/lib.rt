@@ -1,4 +1,6 @@
-// The closest polygon of an outline that a coder can write within a budget of bits.
+//! The closest polygon of an outline that a coder can write within a budget of bits.
+#![tactic(auto)]
+
 ghost use Rattle.std.specs.Prelude.{◌≤◌, length};
 ghost use Rattle.closest.specs.Closest.{ClosestRule, ClosestBest};
 ghost use Rattle.outline.specs.Plain.{plain};

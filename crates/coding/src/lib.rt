@@ -1,4 +1,6 @@
-// Vertex coders: the code of a displacement, its price, and reading it back.
+//! Vertex coders: the code of a displacement, its price, and reading it back.
+#![tactic(auto)]
+
 mod axis;
 mod bit_row;
 mod chain;

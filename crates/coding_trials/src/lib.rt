@@ -1,3 +1,5 @@
-// Trials of the coders on many displacements and rows.
+//! Trials of the coders on many displacements and rows.
+#![tactic(auto)]
+
 #[cfg(test)]
 mod tests;

@@ -1,4 +1,6 @@
-// What a path may cost: values that take in the weights of edges, and an order of them.
+//! What a path may cost: values that take in the weights of edges, and an order of them.
+#![tactic(auto)]
+
 ghost use Rattle.std.specs.Prelude.{◌≡◌};
 ghost use Rattle.cost.specs.Cost.{CostOf, Laws, StrictLaws};
 

@@ -1,4 +1,7 @@
-// Reads a record of any kind on standard input and prints its kind and its vertices.
+//! Reads a record of any kind on standard input and prints its kind and its vertices.
+#![tactic(auto)]
+
+use anyhow::anyhow;
 use exchange::{decode, report};
 use std::env;
 use std::io::{Read, Write};
@@ -14,7 +17,7 @@ fn is_called_alone(rt: &HostRuntime) -> bool {
 
 fn run(rt: &HostRuntime) -> anyhow::Result<()> {
     if !is_called_alone(rt) {
-        return Err(USAGE.into());
+        return Err(anyhow!("{USAGE}"));
     }
     let mut bytes = Vec::new(rt.alloc());
     rt.stdin().read_to_end(&mut bytes)?;

@@ -1,4 +1,7 @@
-// Reads a chain record on standard input and writes the record of the best polygon of its outline to standard output.
+//! Reads a chain record on standard input and writes the record of the best polygon of its outline to standard output.
+#![tactic(auto)]
+
+use anyhow::anyhow;
 use exchange::{MOST_BYTES, Order, encode, report};
 use std::env;
 use std::io::{Read, Write};
@@ -30,7 +33,7 @@ fn order(rt: &HostRuntime) -> Option<Order> {
 
 fn run(rt: &HostRuntime) -> anyhow::Result<()> {
     let Some(order) = order(rt) else {
-        return Err(USAGE.into());
+        return Err(anyhow!("{USAGE}"));
     };
     let mut bytes = Vec::new(rt.alloc());
     rt.stdin().read_to_end(&mut bytes)?;

@@ -1,4 +1,6 @@
-// The worked examples: what cheapest and closest answer for a few small outlines.
+//! The worked examples: what cheapest and closest answer for a few small outlines.
+#![tactic(auto)]
+
 ghost use Rattle.examples.specs.Examples.{Examples};
 
 use asking::show;

@@ -1,4 +1,6 @@
-// From a chain record to the record of its best polygon, and from a record to its text.
+//! From a chain record to the record of its best polygon, and from a record to its text.
+#![tactic(auto)]
+
 mod decoded;
 mod decoding;
 mod encoding;

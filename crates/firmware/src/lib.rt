@@ -1,4 +1,6 @@
-// What the logger's firmware, which is written in C, calls.
+//! What the logger's firmware, which is written in C, calls.
+#![tactic(auto)]
+
 mod encoder;
 mod reader;
 mod told;

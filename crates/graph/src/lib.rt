@@ -1,4 +1,6 @@
-// The least path to each of a number of places, and the list of its places.
+//! The least path to each of a number of places, and the list of its places.
+#![tactic(auto)]
+
 ghost use Rattle.std.specs.Prelude.{◌≡◌, ℕ, ◌^◌, ◌≤◌, Option};
 ghost use Rattle.graph.specs.Rows.{Shallow};
 

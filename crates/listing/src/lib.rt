@@ -1,4 +1,6 @@
-// The listing of a chain record: the cheapest polygon of its outline for each kind of code.
+//! The listing of a chain record: the cheapest polygon of its outline for each kind of code.
+#![tactic(auto)]
+
 mod line;
 mod lines;
 mod shown;

@@ -1,4 +1,6 @@
-// How far the points of an outline stray from the edges of a polygon.
+//! How far the points of an outline stray from the edges of a polygon.
+#![tactic(auto)]
+
 mod chosen;
 mod deviations;
 mod fraction;

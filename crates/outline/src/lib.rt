@@ -1,4 +1,6 @@
-// The outline of a warm patch: a frame, and points that each follow the one before by one of eight moves.
+//! The outline of a warm patch: a frame, and points that each follow the one before by one of eight moves.
+#![tactic(auto)]
+
 mod call;
 mod calls;
 mod moves;

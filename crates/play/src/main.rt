@@ -1,4 +1,6 @@
-// Reads a script of calls on standard input and prints the answer to each of its lines.
+//! Reads a script of calls on standard input and prints the answer to each of its lines.
+#![tactic(auto)]
+
 use scripts::Session;
 use std::io;
 use std::io::{BufRead, BufReader};

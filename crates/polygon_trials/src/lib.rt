@@ -1,4 +1,6 @@
-// Trials of what is found against every polygon of many outlines.
+//! Trials of what is found against every polygon of many outlines.
+#![tactic(auto)]
+
 #[cfg(test)]
 mod answers;
 #[cfg(test)]

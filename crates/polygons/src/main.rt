@@ -1,4 +1,6 @@
-// Reads a chain record on standard input and prints the cheapest polygon of its outline for each kind of code.
+//! Reads a chain record on standard input and prints the cheapest polygon of its outline for each kind of code.
+#![tactic(auto)]
+
 use listing::{Line, Listing, header, kind_refused, list_record, record_refused};
 use std::io;
 use std::io::{Read, Write};

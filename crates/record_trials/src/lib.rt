@@ -1,4 +1,6 @@
-// Trials of records: written, read back, damaged.
+//! Trials of records: written, read back, damaged.
+#![tactic(auto)]
+
 #[cfg(test)]
 mod damaged;
 #[cfg(test)]

@@ -1,4 +1,6 @@
-// Records: a polygon's vertices as bytes.
+//! Records: a polygon's vertices as bytes.
+#![tactic(auto)]
+
 mod body;
 mod codes;
 mod edges;
@@ -6,7 +8,7 @@ mod fault;
 mod head;
 mod laws;
 mod numbers;
-mod read;
+mod reader;
 mod reading;
 mod tail;
 mod write;
@@ -14,7 +16,7 @@ mod written;
 
 pub use fault::{BitFault, CoderFault, Fault, HeadFault};
 pub use laws::{kinds_are_unique, records_are_unique};
-pub use read::{read, read_chain, read_kind};
+pub use reader::{read, read_chain, read_kind};
 pub use reading::Reading;
 pub use write::{record, write_kind};
 pub use written::Written;

@@ -1,4 +1,6 @@
-// Any list of calls on one outline: opening, extending, retracting and the searches, in any order.
+//! Any list of calls on one outline: opening, extending, retracting and the searches, in any order.
+#![tactic(auto)]
+
 pub use answer::Answer;
 pub use call::Call;
 pub use entry::{Entry, first_places};

@@ -1,4 +1,6 @@
-// Scripts of calls on one outline: what a line says, and what a logger answers to it.
+//! Scripts of calls on one outline: what a line says, and what a logger answers to it.
+#![tactic(auto)]
+
 mod command;
 mod make;
 mod numbers;

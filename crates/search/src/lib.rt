@@ -1,4 +1,6 @@
-// The least polygon of an outline, for every weigher and cost.
+//! The least polygon of an outline, for every weigher and cost.
+#![tactic(auto)]
+
 ghost use Rattle.std.specs.Prelude.{◌≤◌, length};
 ghost use Rattle.outline.specs.Plain.{plain};
 ghost use Rattle.search.specs.Best.{BestAnswered};

@@ -1,4 +1,6 @@
-// From a chain record to the outline that it traces.
+//! From a chain record to the outline that it traces.
+#![tactic(auto)]
+
 mod read;
 mod steps;
 

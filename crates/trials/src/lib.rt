@@ -1,4 +1,6 @@
-// Trials of the searches against every polygon of many outlines.
+//! Trials of the searches against every polygon of many outlines.
+#![tactic(auto)]
+
 #[cfg(test)]
 mod asked;
 #[cfg(test)]

@@ -1,4 +1,6 @@
-// What the edges of an outline weigh.
+//! What the edges of an outline weigh.
+#![tactic(auto)]
+
 mod deviation;
 mod edge;
 mod priced;

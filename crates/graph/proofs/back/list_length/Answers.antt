@@ -25,7 +25,7 @@ pub returns-then-start : goal.returns-then-start
 returns-then-start g c =
     let rows = c.args.rows.now in
     let row = c.index-rows-0.result in
-    let some = eqb-false (length rows) 0 (sym c.is-empty.ensures ∙ c.if-is-empty.false) in
+    let some = eqb-false (length rows) 0 (sym c.is_empty.ensures ∙ c.if-is_empty.false) in
     counted_all rows c.args.to c.loop-at.at c.loop-at.count c.loop-at.invariant row (omega arith)
     (nth_is rows 0 row (omega arith) c.index-rows-0.is) c.if-start.true
 
@@ -33,7 +33,7 @@ pub returns-else-start : goal.returns-else-start
 returns-else-start g c =
     let rows = c.args.rows.now in
     let row = c.index-rows-0.result in
-    let some = eqb-false (length rows) 0 (sym c.is-empty.ensures ∙ c.if-is-empty.false) in
+    let some = eqb-false (length rows) 0 (sym c.is_empty.ensures ∙ c.if-is_empty.false) in
     let first = nth_is rows 0 row (omega arith) c.index-rows-0.is in
     counted_away rows c.args.to c.loop-at.at c.loop-at.count c.loop-at.invariant (omega arith)
     (λ x here reached. both_ways x.reached (ap (λ r. r.reached) (same_value (slice_get rows 0) x row here first) ∙ c.if-start.false) reached)

@@ -3,7 +3,7 @@ use Rattle.graph.proofs.Filling.{offer_more, offer_skips}
 use Rattle.graph.specs.Rows.{offer}
 use Rattle.graph.specs.Steps.{Best}
 use Rattle.graph.proofs.search.best.Goals as goal
-use Rattle.graph.proofs.search.best.Goals.{in-Some, in-default}
+use Rattle.graph.proofs.search.best.Goals.{in-Some, in_default}
 
 pub loop-from-preserved : goal.loop-from-preserved
 loop-from-preserved g c =
@@ -17,7 +17,7 @@ loop-from-preserved g c =
       | in-Some w ↦
           offer_more k edge rows to c.requires.room c.requires.table (g.G.Graph.places graph) (g.G.Graph.depth graph) c.requires.shallow g.met.G.Cost.Cost.laws c.requires.place
           from c.loop-from.best c.match-offered.best _ w.better.result c.loop-from-test.true c.loop-from.invariant refl w.in-Some.ensures w.better.ensures w.best-is
-      | in-default w ↦ offer_skips k edge rows to from c.loop-from.best c.match-offered.best c.loop-from.invariant w.in-default.ensures w.best-is
+      | in_default w ↦ offer_skips k edge rows to from c.loop-from.best c.match-offered.best c.loop-from.invariant w.in-default.ensures w.best-is
     ]
 
 pub returns : goal.returns

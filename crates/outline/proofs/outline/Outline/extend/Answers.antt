@@ -6,8 +6,8 @@ use Rattle.outline.specs.Held.{held, origin, Framed, Traced}
 use Rattle.outline.proofs.Kept.{framed_push, traced_push, displaced_inside}
 use Rattle.outline.proofs.outline.Outline.extend.Goals as goal
 
-pub invariant-of-self : goal.invariant-of-self
-invariant-of-self c =
+pub invariant_of-self : goal.invariant_of-self
+invariant_of-self c =
     let o = c.args.self.now in
     let ps = held o.points in
     let more = c.push.ensures in

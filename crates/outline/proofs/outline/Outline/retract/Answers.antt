@@ -4,8 +4,8 @@ use Rattle.outline.specs.Held.{held, Framed, Traced}
 use Rattle.outline.proofs.Kept.{framed_take, traced_take}
 use Rattle.outline.proofs.outline.Outline.retract.Goals as goal
 
-pub invariant-of-self : goal.invariant-of-self
-invariant-of-self c =
+pub invariant_of-self : goal.invariant_of-self
+invariant_of-self c =
     let o = c.args.self.now in
     let ps = held o.points in
     let less = c.pop.ensures in

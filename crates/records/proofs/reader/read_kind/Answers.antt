@@ -4,7 +4,7 @@ use Rattle.records.specs.declared.fault.Fault.TheVariants.{Head}
 use Rattle.records.specs.declared.fault.HeadFault.TheVariants.{Kind}
 use Rattle.records.proofs.Acceptance.{read_right, only_kind}
 use Rattle.records.proofs.Exact.{read_exact, only_codes}
-use Rattle.records.proofs.read.read_kind.Goals as goal
+use Rattle.records.proofs.reader.read_kind.Goals as goal
 
 pub returns-in-err-head : goal.returns-in-err-head
 returns-in-err-head g c =

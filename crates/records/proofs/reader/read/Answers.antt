@@ -6,7 +6,7 @@ use Rattle.records.specs.declared.fault.HeadFault.TheVariants.{Kind}
 use Rattle.records.proofs.Acceptance.{read_right}
 use Rattle.records.proofs.Exact.{read_exact}
 use Rattle.records.proofs.Known.{kind_known, kind_unknown, kinds_codes}
-use Rattle.records.proofs.read.read.Goals as goal
+use Rattle.records.proofs.reader.read.Goals as goal
 
 pub returns-in-err-head : goal.returns-in-err-head
 returns-in-err-head c =
