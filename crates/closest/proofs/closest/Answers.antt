@@ -7,20 +7,20 @@ use Rattle.closest.proofs.Answering.{closest_rule, closest_best}
 use Rattle.closest.proofs.Fitting.{made_again, left_at_largest, writes_none, all_over, reached_first}
 use Rattle.closest.proofs.closest.Goals as goal
 
-pub returns-in-default : goal.returns-in-default
-returns-in-default g c =
+pub returns-in_default : goal.returns-in_default
+returns-in_default g c =
     let o = c.args.outline.now in
     let ps = (plain o).points in
     let codes = g.C.Coder.table c.args.coder.now in
     let strays = g.M.Measure.strays c.args.measure.now in
     let few = (rules_of o).count.1 in
     let laws = g.met.C.Coder.codes c.args.coder.now in
-    let h = c.in-ok-cost.ensures in
-    let cost = c.in-ok-cost.field-0 in
+    let h = c.in_ok-cost.ensures in
+    let cost = c.in_ok-cost.field-0 in
     let t = c.largest.result in
-    let fits = room_fits (length ps) (length c.args.rows.now) (length c.args.list.now) _ c.in-ok-check-room.ensures in
-    let left = left_at_largest codes strays ps few laws t c.largest.ensures cost h.best c.args.rows.now c.fill-at.new.rows h.rule.0 in
-    let none = writes_none codes strays ps few laws t c.largest.ensures cost h.best c.in-default.is in
+    let fits = room_fits (length ps) (length c.args.rows.now) (length c.args.list.now) _ c.in_ok-check_room.ensures in
+    let left = left_at_largest codes strays ps few laws t c.largest.ensures cost h.best c.args.rows.now c.fill_at.new.rows h.rule.0 in
+    let none = writes_none codes strays ps few laws t c.largest.ensures cost h.best c.in_default.is in
     record { rule = inr (inr (inl (refl, fits.1, none, left, refl))); best = λ _ _. inl (refl, none) }
 
 pub returns-then-cost-budget : goal.returns-then-cost-budget
@@ -31,19 +31,19 @@ returns-then-cost-budget g c =
     let strays = g.M.Measure.strays c.args.measure.now in
     let few = (rules_of o).count.1 in
     let laws = g.met.C.Coder.codes c.args.coder.now in
-    let h = c.in-ok-cost.ensures in
-    let cost = c.in-ok-cost.field-0 in
+    let h = c.in_ok-cost.ensures in
+    let cost = c.in_ok-cost.field-0 in
     let t = c.largest.result in
-    let fits = room_fits (length ps) (length c.args.rows.now) (length c.args.list.now) _ c.in-ok-check-room.ensures in
-    let left = left_at_largest codes strays ps few laws t c.largest.ensures cost h.best c.args.rows.now c.fill-at.new.rows h.rule.0 in
+    let fits = room_fits (length ps) (length c.args.rows.now) (length c.args.list.now) _ c.in_ok-check_room.ensures in
+    let left = left_at_largest codes strays ps few laws t c.largest.ensures cost h.best c.args.rows.now c.fill_at.new.rows h.rule.0 in
     let over = all_over codes strays ps few laws t c.largest.ensures cost h.best c.args.budget c.in-Some.cost c.in-Some.is c.if-cost-budget.true in
     record { rule = inr (inr (inr (refl, fits.1, over, left, refl))); best = λ _ _. inr (refl, over) }
 
-pub smallest-deviation-requires : goal.smallest-deviation-requires
-smallest-deviation-requires g c =
+pub smallest_deviation-requires : goal.smallest_deviation-requires
+smallest_deviation-requires g c =
     let o = c.args.outline.now in
-    let h = c.in-ok-cost.ensures in
-    reached_first (g.C.Coder.table c.args.coder.now) (g.M.Measure.strays c.args.measure.now) (plain o).points (rules_of o).count.1 (g.met.C.Coder.codes c.args.coder.now) c.largest.result c.largest.ensures c.in-ok-cost.field-0 h.best c.args.budget c.in-Some.cost c.in-Some.is c.if-cost-budget.false
+    let h = c.in_ok-cost.ensures in
+    reached_first (g.C.Coder.table c.args.coder.now) (g.M.Measure.strays c.args.measure.now) (plain o).points (rules_of o).count.1 (g.met.C.Coder.codes c.args.coder.now) c.largest.result c.largest.ensures c.in_ok-cost.field-0 h.best c.args.budget c.in-Some.cost c.in-Some.is c.if-cost-budget.false
 
 pub returns : goal.returns
 returns g c =
@@ -54,18 +54,18 @@ returns g c =
     let laws = g.met.C.Coder.codes c.args.coder.now in
     let some : 0 < length ps = omega (arith, (rules_of o).count.0) in
     let few = (rules_of o).count.1 in
-    let fits = room_fits (length ps) (length c.args.rows.now) (length c.args.list.now) _ c.in-ok-check-room.ensures in
-    let h = c.in-ok-cost.ensures in
-    let d = c.in-ok-d.d in
-    let s = c.in-ok-d.ensures in
+    let fits = room_fits (length ps) (length c.args.rows.now) (length c.args.list.now) _ c.in_ok-check_room.ensures in
+    let h = c.in_ok-cost.ensures in
+    let d = c.in_ok-d.d in
+    let s = c.in_ok-d.ensures in
     let is = made_again d c.top.result c.bottom.result c.top.ensures c.bottom.ensures in
     let rows = c.args.rows.now in
-    let mid = c.smallest-deviation.new.rows in
+    let mid = c.smallest_deviation.new.rows in
     let after = c.cheapest.new.rows in
     let list = c.args.list.now in
     let list_after = c.cheapest.new.list in
     let r = c.cheapest.result in
-    let mid_long : length ps ≤ length mid = omega (arith, fits.0, c.fill-at.auto.rows, c.smallest-deviation.auto.rows) in
+    let mid_long : length ps ≤ length mid = omega (arith, fits.0, c.fill_at.auto.rows, c.smallest_deviation.auto.rows) in
     let after_long : length ps ≤ length after = omega (arith, mid_long, c.cheapest.auto.rows) in
     record {
       rule = closest_rule codes strays ps some few laws c.args.budget d s.smallest rows mid after list list_after r fits.0 mid_long after_long fits.1 (s.further ∙ h.rule.0.2)

@@ -13,8 +13,8 @@ use Rattle.examples.proofs.worked_examples.Goals as goal
 pub returns : goal.returns
 unfolding dec_lt dec_le
 returns c =
-    let start = c.outline-by-start.ensures in
-    let bent = c.outline-by-corner.ensures in
+    let start = c.outline_by-start.ensures in
+    let bent = c.outline_by-corner.ensures in
     record {
       alone = cheapest_shown 0 1 [] Run line _ _ _ start c.show.ensures (lit< tt, lit≤ tt) refl;
       chord = cheapest_shown 2 1 corner Run line _ _ _ bent c.show-2.ensures (lit< tt, lit≤ tt) refl;
@@ -28,7 +28,7 @@ returns c =
       exact =
           shown (Closest 12) corner Run line _ _ _ bent c.show-8.ensures
           (closest_always (kind_table Run) line (traced corner) 12 (0 ∷ 2 ∷ 4 ∷ []) legs_fit 0 1 refl _ (cheapest_fact 0 1 corner Run line _ (lit< tt, lit≤ tt) refl));
-      diagonal = cheapest_shown 0 1 (7 ∷ []) Axis line _ _ _ c.outline-by-diagonal.ensures c.show-9.ensures (lit< tt, lit≤ tt) refl;
-      back = cheapest_shown 1 1 (0 ∷ 4 ∷ []) Flat line _ _ _ c.outline-by-back.ensures c.show-10.ensures (lit< tt, lit≤ tt) refl;
-      long = cheapest_shown 0 1 straight Run line _ _ _ c.outline-by-straight.ensures c.show-11.ensures (lit< tt, lit≤ tt) refl;
+      diagonal = cheapest_shown 0 1 (7 ∷ []) Axis line _ _ _ c.outline_by-diagonal.ensures c.show-9.ensures (lit< tt, lit≤ tt) refl;
+      back = cheapest_shown 1 1 (0 ∷ 4 ∷ []) Flat line _ _ _ c.outline_by-back.ensures c.show-10.ensures (lit< tt, lit≤ tt) refl;
+      long = cheapest_shown 0 1 straight Run line _ _ _ c.outline_by-straight.ensures c.show-11.ensures (lit< tt, lit≤ tt) refl;
     }

@@ -10,7 +10,7 @@ loop-tolerance-smaller-in-Some-2 g c =
     let strays = g.M.Measure.strays c.args.measure.now in
     let ps = (plain c.args.outline.now).points in
     let t = c.in-Some.tolerance in
-    let found = subst (Tried codes strays ps c.args.budget t) c.in-Some-2.is c.in-ok-deviation.ensures.tried in
+    let found = subst (Tried codes strays ps c.args.budget t) c.in-Some-2.is c.in_ok-deviation.ensures.tried in
     lowered_fewer codes strays ps c.loop-tolerance.gap t c.in-Some-2.deviation c.in-Some.ensures found.1
 
 pub loop-tolerance-smaller : goal.loop-tolerance-smaller
@@ -25,6 +25,6 @@ returns g c =
     let ps = (plain c.args.outline.now).points in
     let inv = c.loop-tolerance.invariant in
     record {
-      smallest = smallest codes strays ps c.args.budget c.loop-tolerance.gap inv.0 inv.1 c.in-default.ensures;
+      smallest = smallest codes strays ps c.args.budget c.loop-tolerance.gap inv.0 inv.1 c.in_default.ensures;
       further = inv.2;
     }

@@ -3,8 +3,8 @@ use Rattle.outline.specs.Moves.{move}
 use Rattle.coding.specs.Straight.{move_small, times_fits, times_is}
 use Rattle.coding.proofs.directions.taken.Goals as goal
 
-pub overflow-mul-result-2 : goal.overflow-mul-result-2
-overflow-mul-result-2 c = times_fits c.args.length (move c.args.direction).1 (omega arith) (move_small c.args.direction (omega arith)).1
+pub overflow_mul-result-2 : goal.overflow_mul-result-2
+overflow_mul-result-2 c = times_fits c.args.length (move c.args.direction).1 (omega arith) (move_small c.args.direction (omega arith)).1
 
 pub returns : goal.returns
 returns c =

@@ -7,19 +7,19 @@ use Rattle.records.specs.Numbered.{Recorded}
 use Rattle.exchange.proofs.Written.{found_written}
 use Rattle.exchange.proofs.encoding.write_best.Goals as goal
 
-pub returns-in-err-found : goal.returns-in-err-found
-returns-in-err-found c = (c.best-polygon.new.list, Err _, c.in-err-found.ensures.best, (search rules, refl))
+pub returns-in_err-found : goal.returns-in_err-found
+returns-in_err-found c = (c.best_polygon.new.list, Err _, c.in_err-found.ensures.best, (search rules, refl))
 
 pub returns : goal.returns
 returns c =
     let o = c.args.outline.now in
     let k = c.args.kind in
     let ps = (plain o).points in
-    let a = c.in-ok-found.found in
-    let list = c.best-polygon.new.list in
+    let a = c.in_ok-found.found in
+    let list = c.best_polygon.new.list in
     let before = c.args.buffer.now in
-    let after = c.write-kind.new.buffer in
+    let after = c.write_kind.new.buffer in
     let front = ap (λ m. take m list) (omega arith) in
-    let written = subst₂ (λ n vs. Recorded (kind_table k) n ps vs before after c.write-kind.result) c.number.ensures front c.write-kind.ensures.recorded in
-    let best = c.in-ok-found.ensures.best in
-    (list, Ok a, best, found_written k (kind_number k) (chosen_strays c.args.measure) c.args.goal ps (rules_of o).count.1 list before after a c.write-kind.result best written)
+    let written = subst₂ (λ n vs. Recorded (kind_table k) n ps vs before after c.write_kind.result) c.number.ensures front c.write_kind.ensures.recorded in
+    let best = c.in_ok-found.ensures.best in
+    (list, Ok a, best, found_written k (kind_number k) (chosen_strays c.args.measure) c.args.goal ps (rules_of o).count.1 list before after a c.write_kind.result best written)

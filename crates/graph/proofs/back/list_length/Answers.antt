@@ -10,14 +10,14 @@ pub loop-at-preserved : goal.loop-at-preserved
 loop-at-preserved g c =
     counted_more c.args.rows.now c.args.to c.loop-at.at c.loop-at.count c.loop-at.invariant c.in-Some.lower c.loop-at-test.true (sym c.in-Some.ensures)
 
-pub returns-in-default : goal.returns-in-default
-returns-in-default g c =
-    counted_stops c.args.rows.now c.args.to c.loop-at.at c.loop-at.count c.loop-at.invariant c.loop-at-test.true (sym c.in-default.ensures)
+pub returns-in_default : goal.returns-in_default
+returns-in_default g c =
+    counted_stops c.args.rows.now c.args.to c.loop-at.at c.loop-at.count c.loop-at.invariant c.loop-at-test.true (sym c.in_default.ensures)
 
-pub returns-then-is-empty : goal.returns-then-is-empty
-returns-then-is-empty g c =
+pub returns-then-is_empty : goal.returns-then-is_empty
+returns-then-is_empty g c =
     let rows = c.args.rows.now in
-    let none : length rows ≡ 0 = eqb-true (length rows) 0 (sym c.is-empty.ensures ∙ c.if-is-empty.true) in
+    let none : length rows ≡ 0 = eqb-true (length rows) 0 (sym c.is_empty.ensures ∙ c.if-is_empty.true) in
     counted_away rows c.args.to c.loop-at.at c.loop-at.count c.loop-at.invariant (omega arith)
     (λ row here reached. not_both (slice_get rows 0) row (nth_beyond rows 0 (omega arith)) here)
 

@@ -20,8 +20,8 @@ loop-k-init g c =
 pub bounds-rows-at : goal.bounds-rows-at
 bounds-rows-at g c = read_back_inside (c.loop-k.invariant.3 c.loop-k-test.true).1
 
-pub offset-bounds-rows-at : goal.offset-bounds-rows-at
-offset-bounds-rows-at g c = omega (arith, read_back_inside (c.loop-k.invariant.3 c.loop-k-test.true).1)
+pub offset_bounds-rows-at : goal.offset_bounds-rows-at
+offset_bounds-rows-at g c = omega (arith, read_back_inside (c.loop-k.invariant.3 c.loop-k-test.true).1)
 
 pub loop-k-preserved : goal.loop-k-preserved
 loop-k-preserved g c =

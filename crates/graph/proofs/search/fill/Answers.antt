@@ -9,7 +9,7 @@ loop-to-preserved g c =
     let rows = c.loop-to.rows in
     let to = c.loop-to.to in (
       simp length-set (omega (arith, c.loop-to.invariant.0)),
-      table_more g.row.G-Cost-Cost.cost (g.G.Graph.edge c.args.graph.now) rows to (omega (arith, c.loop-to.invariant.0)) c.loop-to.invariant.1 c.row-next.result (omega (arith, c.loop-to.invariant.0)) c.row-next.ensures,
+      table_more g.G.Cost.Cost.cost (g.G.Graph.edge c.args.graph.now) rows to (omega (arith, c.loop-to.invariant.0)) c.loop-to.invariant.1 c.row-next.result (omega (arith, c.loop-to.invariant.0)) c.row-next.ensures,
       drop-set-lt c.places-places.result rows to c.row-next.result c.loop-to-test.true ∙ c.loop-to.invariant.2,
     )
 
@@ -18,6 +18,6 @@ returns g c =
     let e = c.places-places.ensures.number in
     let rows = c.loop-to.rows in (
       omega arith,
-      subst (λ n. Table g.row.G-Cost-Cost.cost (g.G.Graph.edge c.args.graph.now) (take n rows)) (omega arith) c.loop-to.invariant.1,
+      subst (λ n. Table g.G.Cost.Cost.cost (g.G.Graph.edge c.args.graph.now) (take n rows)) (omega arith) c.loop-to.invariant.1,
       subst (λ n. drop n rows ≡ drop n c.args.rows.now) e c.loop-to.invariant.2,
     )

@@ -7,7 +7,7 @@ returns-in-Some g c =
     let rows = c.args.rows.now in
     let from = c.args.from in
     let row = c.index-rows-from.result in
-    offered_some g.row.G-Cost-Cost.cost (g.G.Graph.edge c.args.graph.now) rows from c.args.to row (nth_is rows from row c.requires c.index-rows-from.is)
+    offered_some g.G.Cost.Cost.cost (g.G.Graph.edge c.args.graph.now) rows from c.args.to row (nth_is rows from row c.requires c.index-rows-from.is)
     c.in-Some.weight c.join.result c.if-row.true c.in-Some.ensures c.join.ensures
 
 pub returns-else-row : goal.returns-else-row
@@ -15,4 +15,4 @@ returns-else-row g c =
     let rows = c.args.rows.now in
     let from = c.args.from in
     let row = c.index-rows-from.result in
-    offered_none g.row.G-Cost-Cost.cost (g.G.Graph.edge c.args.graph.now) rows from c.args.to row (nth_is rows from row c.requires c.index-rows-from.is) c.if-row.false
+    offered_none g.G.Cost.Cost.cost (g.G.Graph.edge c.args.graph.now) rows from c.args.to row (nth_is rows from row c.requires c.index-rows-from.is) c.if-row.false

@@ -18,4 +18,4 @@ returns g c =
     let of_edge = edge_deviation (g.M.Measure.strays x.measure.now) (plain x.outline.now).points in
     let vs = x.list.now in
     let l = c.loop-vertex in
-    (c.if-not-is-polygon.ensures.0 refl, polygon_all of_edge vs l.vertex-index l.from l.widest (polygon_deviation of_edge vs) (omega arith) l.invariant)
+    (c.if-not-is_polygon.ensures.0 refl, polygon_all of_edge vs l.vertex-index l.from l.widest (polygon_deviation of_edge vs) (omega arith) l.invariant)

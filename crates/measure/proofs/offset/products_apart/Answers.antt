@@ -3,8 +3,8 @@ use Rattle.std.proofs.lemmas.Int.{to_z-of_z}
 use Rattle.measure.specs.Bounds.{product_most, products_most, small_fits}
 use Rattle.measure.proofs.offset.products_apart.Goals as goal
 
-pub overflow-sub-result : goal.overflow-sub-result
-overflow-sub-result c =
+pub overflow_sub-result : goal.overflow_sub-result
+overflow_sub-result c =
     let x = c.args in
     let fa = c.ranges.a in
     let fb = c.ranges.b in

@@ -6,5 +6,5 @@ use Rattle.records.proofs.head.read_head.Goals as goal
 pub returns : goal.returns
 returns c =
     let bs = c.args.bytes.now in
-    let n : c.from-le-bytes-length.result ≡ word_at bs 0 = search rules in
+    let n : c.from_le_bytes-length.result ≡ word_at bs 0 = search rules in
     ((omega (arith, ltb-false), omega arith, omega (arith, ltb-false)), search rules, same_point _ _ _ _ (search rules) (search rules), refl, part_of_rest bs 9 _ _ n)

@@ -2,8 +2,8 @@ use Rattle.std.proofs.Common.{◌-◌, arith}
 use Rattle.records.proofs.Filling.{last_byte, last_fits, all_whole}
 use Rattle.records.proofs.tail.finish.Goals as goal
 
-pub overflow-cast-body-then-tail-gt0 : goal.overflow-cast-body-then-tail-gt0
-overflow-cast-body-then-tail-gt0 c = let t = c.args.tail in omega (arith, last_fits t.bits t.len c.requires.tidy.1 c.requires.tidy.0)
+pub overflow_cast-body-then-tail-gt0 : goal.overflow_cast-body-then-tail-gt0
+overflow_cast-body-then-tail-gt0 c = let t = c.args.tail in omega (arith, last_fits t.bits t.len c.requires.tidy.1 c.requires.tidy.0)
 
 pub returns-then-tail-gt0 : goal.returns-then-tail-gt0
 returns-then-tail-gt0 c =

@@ -12,8 +12,8 @@ loop-len-init c =
     let room = c.requires.room in
     (code_below t.bits t.len c.args.code c.args.width tidy.1 (omega arith) c.requires.spelled, omega arith, omega arith, refl)
 
-pub overflow-cast-body-in-loop-len : goal.overflow-cast-body-in-loop-len
-overflow-cast-body-in-loop-len c = omega (arith, byte_fits c.loop-len.bits c.loop-len.len (omega arith) c.loop-len.invariant.0)
+pub overflow_cast-body-in-loop-len : goal.overflow_cast-body-in-loop-len
+overflow_cast-body-in-loop-len c = omega (arith, byte_fits c.loop-len.bits c.loop-len.len (omega arith) c.loop-len.invariant.0)
 
 pub loop-len-preserved : goal.loop-len-preserved
 loop-len-preserved c =

@@ -13,37 +13,37 @@ use Rattle.records.proofs.write.write_kind.Goals as goal
 
 pub slice-bounds-corners-end : goal.slice-bounds-corners-end
 slice-bounds-corners-end g c =
-    let few : length c.args.list.now ≤ 256 = (list_few c.args.outline.now c.args.list.now (c.if-not-is-polygon.ensures.0 refl)).1 in
+    let few : length c.args.list.now ≤ 256 = (list_few c.args.outline.now c.args.list.now (c.if-not-is_polygon.ensures.0 refl)).1 in
     search rules
 
-pub code-bits-requires : goal.code-bits-requires
-code-bits-requires g c =
+pub code_bits-requires : goal.code_bits-requires
+code_bits-requires g c =
     let o = c.args.outline.now in
     let list = c.args.list.now in
-    let p = c.if-not-is-polygon.ensures.0 refl in
+    let p = c.if-not-is_polygon.ensures.0 refl in
     let inside = corners_inside o list p c.vertices-at.result c.vertices-at.ensures in
     let count = corners_count o list p c.vertices-at.result c.vertices-at.ensures in
     let few = list_few o list p in
     record { inside = inside; some = omega (arith, few.0, count); few = omega (arith, few.1, count) }
 
-pub returns-in-default : goal.returns-in-default
-returns-in-default g c =
+pub returns-in_default : goal.returns-in_default
+returns-in_default g c =
     let t = g.C.Coder.table c.args.coder.now in
     let o = c.args.outline.now in
     let list = c.args.list.now in
-    let p = c.if-not-is-polygon.ensures.0 refl in
+    let p = c.if-not-is_polygon.ensures.0 refl in
     let vs = vertices (held o.points) list in
     let same = corners_are o list p c.vertices-at.result c.vertices-at.ensures in
-    let none : None ≡ price_of (codes_of t vs) = sym c.in-default.is ∙ c.code_bits.ensures ∙ bits_are_codes t _ ∙ ap (λ xs. price_of (codes_of t xs)) same in
+    let none : None ≡ price_of (codes_of t vs) = sym c.in_default.is ∙ c.code_bits.ensures ∙ bits_are_codes t _ ∙ ap (λ xs. price_of (codes_of t xs)) same in
     let w = writes_none t c.args.kind (held o.points) list p c.args.buffer.now none in
-    record { right = summed t c.args.kind (held c.args.outline.now.points) c.args.list.now (c.if-not-is-polygon.ensures.0 refl) w; back = tt; recorded = w }
+    record { right = summed t c.args.kind (held c.args.outline.now.points) c.args.list.now (c.if-not-is_polygon.ensures.0 refl) w; back = tt; recorded = w }
 
-pub overflow-add-bytes : goal.overflow-add-bytes
-overflow-add-bytes g c =
+pub overflow_add-bytes : goal.overflow_add-bytes
+overflow_add-bytes g c =
     let t = g.C.Coder.table c.args.coder.now in
     let o = c.args.outline.now in
     let list = c.args.list.now in
-    let p = c.if-not-is-polygon.ensures.0 refl in
+    let p = c.if-not-is_polygon.ensures.0 refl in
     let vs = vertices (held o.points) list in
     let same = corners_are o list p c.vertices-at.result c.vertices-at.ensures in
     let b = c.in-Some.bits in
@@ -56,21 +56,21 @@ returns-then-buffer-bytes g c =
     let t = g.C.Coder.table c.args.coder.now in
     let o = c.args.outline.now in
     let list = c.args.list.now in
-    let p = c.if-not-is-polygon.ensures.0 refl in
+    let p = c.if-not-is_polygon.ensures.0 refl in
     let vs = vertices (held o.points) list in
     let same = corners_are o list p c.vertices-at.result c.vertices-at.ensures in
     let b = c.in-Some.bits in
     let bits : Some b ≡ price_of (codes_of t vs) = sym c.in-Some.is ∙ c.code_bits.ensures ∙ bits_are_codes t _ ∙ ap (λ xs. price_of (codes_of t xs)) same in
     let codes = some_price (codes_of t vs) b bits in
     let w = writes_short t c.args.kind (held o.points) list p c.args.buffer.now b codes.0 codes.1 codes.2 (omega arith) in
-    record { right = summed t c.args.kind (held c.args.outline.now.points) c.args.list.now (c.if-not-is-polygon.ensures.0 refl) w; back = tt; recorded = w }
+    record { right = summed t c.args.kind (held c.args.outline.now.points) c.args.list.now (c.if-not-is_polygon.ensures.0 refl) w; back = tt; recorded = w }
 
-pub overflow-cast-bytes : goal.overflow-cast-bytes
-overflow-cast-bytes g c =
+pub overflow_cast-bytes : goal.overflow_cast-bytes
+overflow_cast-bytes g c =
     let t = g.C.Coder.table c.args.coder.now in
     let o = c.args.outline.now in
     let list = c.args.list.now in
-    let p = c.if-not-is-polygon.ensures.0 refl in
+    let p = c.if-not-is_polygon.ensures.0 refl in
     let vs = vertices (held o.points) list in
     let same = corners_are o list p c.vertices-at.result c.vertices-at.ensures in
     let b = c.in-Some.bits in
@@ -78,15 +78,15 @@ overflow-cast-bytes g c =
     let small : b ≤ 8192 = omega (arith, bits_few t (g.met.C.Coder.codes c.args.coder.now) vs b bits, (list_few o list p).1, length-map list (λ i. get_or (held o.points) i origin)) in
     omega (arith, small)
 
-pub overflow-cast-list : goal.overflow-cast-list
-overflow-cast-list g c = omega (arith, (list_few c.args.outline.now c.args.list.now (c.if-not-is-polygon.ensures.0 refl)).1)
+pub overflow_cast-list : goal.overflow_cast-list
+overflow_cast-list g c = omega (arith, (list_few c.args.outline.now c.args.list.now (c.if-not-is_polygon.ensures.0 refl)).1)
 
-pub write-codes-requires : goal.write-codes-requires
-write-codes-requires g c =
+pub write_codes-requires : goal.write_codes-requires
+write_codes-requires g c =
     let t = g.C.Coder.table c.args.coder.now in
     let o = c.args.outline.now in
     let list = c.args.list.now in
-    let p = c.if-not-is-polygon.ensures.0 refl in
+    let p = c.if-not-is_polygon.ensures.0 refl in
     let inside = corners_inside o list p c.vertices-at.result c.vertices-at.ensures in
     let count = corners_count o list p c.vertices-at.result c.vertices-at.ensures in
     let few = list_few o list p in
@@ -96,8 +96,8 @@ write-codes-requires g c =
     let bits : Some b ≡ price_of (codes_of t vs) = sym c.in-Some.is ∙ c.code_bits.ensures ∙ bits_are_codes t _ ∙ ap (λ xs. price_of (codes_of t xs)) same in
     let before = c.args.buffer.now in
     let n = 9 + (b + 7) / 8 in
-    let nine : length c.copy-from-slice.new.self ≡ 9 = ap length (c.copy-from-slice.ensures.after ∙ c.head-bytes-head.ensures) in
-    let part = part_long c.copy-from-slice.new.self before n nine (omega arith) in
+    let nine : length c.copy_from_slice.new.self ≡ 9 = ap length (c.copy_from_slice.ensures.after ∙ c.head_bytes-head.ensures) in
+    let part = part_long c.copy_from_slice.new.self before n nine (omega arith) in
     record {
       inside = inside;
       some = omega (arith, few.0, count);
@@ -109,7 +109,7 @@ returns g c =
     let t = g.C.Coder.table c.args.coder.now in
     let o = c.args.outline.now in
     let list = c.args.list.now in
-    let p = c.if-not-is-polygon.ensures.0 refl in
+    let p = c.if-not-is_polygon.ensures.0 refl in
     let vs = vertices (held o.points) list in
     let same = corners_are o list p c.vertices-at.result c.vertices-at.ensures in
     let b = c.in-Some.bits in
@@ -119,11 +119,11 @@ returns g c =
     let before = c.args.buffer.now in
     let n = 9 + (b + 7) / 8 in
     let codes = some_price (codes_of t vs) b bits in
-    let h = c.copy-from-slice.new.self in
-    let body = c.write-codes.new.body in
-    let head = c.copy-from-slice.ensures.after ∙ c.head-bytes-head.ensures in
+    let h = c.copy_from_slice.new.self in
+    let body = c.write_codes.new.body in
+    let head = c.copy_from_slice.ensures.after ∙ c.head_bytes-head.ensures in
     let nine : length h ≡ 9 = ap length head in
-    let held_bytes : bytes_of codes.0 ≡ body = codes_bytes t (take (length list - 0) c.vertices-at.result) codes.0 body (ap (codes_of t) same ∙ codes.1) c.write-codes.ensures in
+    let held_bytes : bytes_of codes.0 ≡ body = codes_bytes t (take (length list - 0) c.vertices-at.result) codes.0 body (ap (codes_of t) same ∙ codes.1) c.write_codes.ensures in
     let size : n - 2 ≡ 7 + length (bytes_of codes.0) = omega (arith, length_packed ((length codes.0 + 7) / 8) codes.0, codes.2) in
     let edges : length list - 1 ≡ length vs - 1 = omega (arith, length-map list (λ i. get_or ps i origin)) in
     let joined : h ++ body ≡ framed kind (get_or vs 0 origin) (length vs - 1) codes.0 =
@@ -131,7 +131,7 @@ returns g c =
     let after : _ ≡ framed kind (get_or vs 0 origin) (length vs - 1) codes.0 ++ drop n before = buffer_is h body before n nine (omega arith) ∙ ap (λ xs. xs ++ drop n before) joined in
     let w = writes_all t kind ps list p before b codes.0 codes.1 codes.2 _ (omega arith) after in
     record {
-      right = summed t c.args.kind (held c.args.outline.now.points) c.args.list.now (c.if-not-is-polygon.ensures.0 refl) w;
+      right = summed t c.args.kind (held c.args.outline.now.points) c.args.list.now (c.if-not-is_polygon.ensures.0 refl) w;
       recorded = w;
       back = reads_back t kind ps list p before b codes.0 codes.1 codes.2 _ (vertices_inside o list p) after;
     }

@@ -17,12 +17,12 @@ loop-i-preserved g c =
     let i = c.loop-i.i in
     let cs = c.args.calls.now in
     let es = c.loop-i.entries in
-    let a = c.make-call-answer.result in
+    let a = c.make_call-answer.result in
     let s = state c.args.outline.now c.args.rows.now c.args.priced.now c.args.straying.now c.args.list.now in
-    let u = state c.make-call-answer.new.outline c.make-call-answer.new.rows c.make-call-answer.new.priced c.make-call-answer.new.straying c.make-call-answer.new.list in
-    let lengths : SameLengths (state c.loop-i.outline c.loop-i.rows c.loop-i.priced c.loop-i.straying c.loop-i.list) u = record { rows = c.make-call-answer.auto.rows; priced = c.make-call-answer.auto.priced; straying = c.make-call-answer.auto.straying; list = c.make-call-answer.auto.list } in (
+    let u = state c.make_call-answer.new.outline c.make_call-answer.new.rows c.make_call-answer.new.priced c.make_call-answer.new.straying c.make_call-answer.new.list in
+    let lengths : SameLengths (state c.loop-i.outline c.loop-i.rows c.loop-i.priced c.loop-i.straying c.loop-i.list) u = record { rows = c.make_call-answer.auto.rows; priced = c.make_call-answer.auto.priced; straying = c.make_call-answer.auto.straying; list = c.make_call-answer.auto.list } in (
       omega arith,
-      subst (λ xs. Run t s (take (i + 1) cs) (take (i + 1) xs) u) (sym c.note.ensures) (run_more t s _ u cs es i _ a (omega arith) (omega arith) c.loop-i.invariant.1 c.make-call-answer.ensures lengths (rules_of c.make-call-answer.new.outline)),
+      subst (λ xs. Run t s (take (i + 1) cs) (take (i + 1) xs) u) (sym c.note.ensures) (run_more t s _ u cs es i _ a (omega arith) (omega arith) c.loop-i.invariant.1 c.make_call-answer.ensures lengths (rules_of c.make_call-answer.new.outline)),
       ap (drop (i + 1)) c.note.ensures ∙ kept_more c.args.entries.now es i (noted a u.list) c.loop-i.invariant.2,
     )
 

@@ -6,5 +6,5 @@ use Rattle.scripts.proofs.numbers.number16.Goals as goal
 pub returns : goal.returns
 returns c =
     let t = c.args.text.now in
-    let read = c.in-ok-n.ensures in
-    subst (Reads decimal (λ m. m < 2 ^ 16) t) (sym c.ok.ensures.value) (narrowed 16 (λ m fits. omega arith) t c.in-ok-n.n c.try-from.result c.try-from.ensures read.0 read.1)
+    let read = c.in_ok-n.ensures in
+    subst (Reads decimal (λ m. m < 2 ^ 16) t) (sym c.ok.ensures.value) (narrowed 16 (λ m fits. omega arith) t c.in_ok-n.n c.try_from.result c.try_from.ensures read.0 read.1)

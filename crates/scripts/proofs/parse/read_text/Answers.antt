@@ -5,12 +5,12 @@ use Rattle.scripts.specs.Words.{word_of, arguments}
 use Rattle.scripts.proofs.Begins.{in_two, read_on}
 use Rattle.scripts.proofs.parse.read_text.Goals as goal
 
-pub returns-in-err-word : goal.returns-in-err-word
-returns-in-err-word c =
-    subst (Reads command_text Fitting c.args.line.now) (sym c.from-residual.ensures)
-    (λ a fits e. c.in-err-word.ensures (word_of a) (arguments a) (e ∙ in_two a))
+pub returns-in_err-word : goal.returns-in_err-word
+returns-in_err-word c =
+    subst (Reads command_text Fitting c.args.line.now) (sym c.from_residual.ensures)
+    (λ a fits e. c.in_err-word.ensures (word_of a) (arguments a) (e ∙ in_two a))
 
 pub returns : goal.returns
 returns c =
-    let w = c.in-ok-word in
-    read_on c.args.line.now w.word w.rest.now c.read-command.result w.ensures c.read-command.ensures
+    let w = c.in_ok-word in
+    read_on c.args.line.now w.word w.rest.now c.read_command.result w.ensures c.read_command.ensures

@@ -6,24 +6,24 @@ use Rattle.search.proofs.Lasts.{unlisted, listed}
 use Rattle.search.specs.Rules.{ReadOut}
 use Rattle.search.proofs.list.read_list.Goals as goal
 
-pub returns-in-err-vertices : goal.returns-in-err-vertices
-returns-in-err-vertices g c =
+pub returns-in_err-vertices : goal.returns-in_err-vertices
+returns-in_err-vertices g c =
     let o = c.args.outline.now in
     let n = length (plain o).points in
     let rows = c.args.rows.now in
     let before = c.args.list.now in
-    let after = c.read-back.new.list in
-    subst (ReadOut n rows before after) (sym c.from-residual.ensures)
-    (unlisted n c.len-last.result c.len-last.ensures rows before after (rules_of o).count.1 c.in-err-vertices.ensures)
+    let after = c.read_back.new.list in
+    subst (ReadOut n rows before after) (sym c.from_residual.ensures)
+    (unlisted n c.len-last.result c.len-last.ensures rows before after (rules_of o).count.1 c.in_err-vertices.ensures)
 
-pub offset-bounds-rows-last : goal.offset-bounds-rows-last
-offset-bounds-rows-last g c = omega (arith, read_back_inside c.in-ok-vertices.ensures.1)
+pub offset_bounds-rows-last : goal.offset_bounds-rows-last
+offset_bounds-rows-last g c = omega (arith, read_back_inside c.in_ok-vertices.ensures.1)
 
 pub bounds-rows-last : goal.bounds-rows-last
-bounds-rows-last g c = omega (arith, read_back_inside c.in-ok-vertices.ensures.1)
+bounds-rows-last g c = omega (arith, read_back_inside c.in_ok-vertices.ensures.1)
 
 pub returns : goal.returns
 returns g c =
     let n = length (plain c.args.outline.now).points in
-    listed n c.len-last.result c.len-last.ensures c.args.rows.now c.args.list.now c.read-back.new.list
-    c.in-ok-vertices.vertices c.index-rows-last.result c.index-rows-last.is c.in-ok-vertices.ensures
+    listed n c.len-last.result c.len-last.ensures c.args.rows.now c.args.list.now c.read_back.new.list
+    c.in_ok-vertices.vertices c.index-rows-last.result c.index-rows-last.is c.in_ok-vertices.ensures

@@ -10,7 +10,7 @@ pub returns-then-last : goal.returns-then-last
 returns-then-last g c =
     let o = c.args.outline.now in
     let n = length (plain o).points in
-    let k = g.row.W-Cost-Cost.cost in
+    let k = g.W.Cost.Cost.cost in
     let weight = g.W.Weigher.weight c.args.weigher.now (plain o).points in
     let rows = c.fill.new.rows in
     let filled = c.if-not-fill.ensures in
@@ -27,7 +27,7 @@ pub returns-else-last : goal.returns-else-last
 returns-else-last g c =
     let o = c.args.outline.now in
     let n = length (plain o).points in
-    let k = g.row.W-Cost-Cost.cost in
+    let k = g.W.Cost.Cost.cost in
     let weight = g.W.Weigher.weight c.args.weigher.now (plain o).points in
     let rows = c.fill.new.rows in
     let filled = c.if-not-fill.ensures in

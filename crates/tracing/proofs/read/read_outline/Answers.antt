@@ -7,25 +7,25 @@ use Rattle.tracing.proofs.read.read_outline.Goals as goal
 
 pub slice-bounds-trace-end : goal.slice-bounds-trace-end
 slice-bounds-trace-end c =
-    let r = c.in-ok-reading.ensures.right in
-    let fits = front_fits c.read-chain.new.list r.0 _ c.in-ok-reading.reading.vertices r.3 r.2 in
+    let r = c.in_ok-reading.ensures.right in
+    let fits = front_fits c.read_chain.new.list r.0 _ c.in_ok-reading.reading.vertices r.3 r.2 in
     omega arith
 
 pub unreachable-requires : goal.unreachable-requires
 unreachable-requires c =
-    let r = c.in-ok-reading.ensures.right in
-    let n = c.in-ok-reading.reading.vertices in
-    let list = c.read-chain.new.list in
+    let r = c.in_ok-reading.ensures.right in
+    let n = c.in_ok-reading.reading.vertices in
+    let list = c.read_chain.new.list in
     let fits = front_fits list r.0 _ n r.3 r.2 in
     let rules = accepted_rules c.args.bytes.now r.0 _ _ r.1 (omega arith) in
     let front = ap (λ k. take k list) (omega arith) ∙ front_read list r.0 _ n r.3 r.2 in
-    c.in-default.ensures (subst (λ ps. Rules (in_largest ps)) (sym front) rules)
+    c.in_default.ensures (subst (λ ps. Rules (in_largest ps)) (sym front) rules)
 
 pub returns : goal.returns
 returns c =
-    let r = c.in-ok-reading.ensures.right in
-    let n = c.in-ok-reading.reading.vertices in
+    let r = c.in_ok-reading.ensures.right in
+    let n = c.in_ok-reading.reading.vertices in
     let bs = c.args.bytes.now in
-    let list = c.read-chain.new.list in
+    let list = c.read_chain.new.list in
     let front = ap (λ k. take k list) (omega arith) ∙ front_read list r.0 _ n r.3 r.2 in
-    (r.0, _, subst (λ k. Accepted chain_only bs k r.0 c.in-ok-reading.reading.bytes) (kind_four bs r.0 _ _ r.1) r.1, c.in-Some.ensures ∙ ap in_largest front)
+    (r.0, _, subst (λ k. Accepted chain_only bs k r.0 c.in_ok-reading.reading.bytes) (kind_four bs r.0 _ _ r.1) r.1, c.in-Some.ensures ∙ ap in_largest front)

@@ -5,18 +5,18 @@ use Rattle.tracing.specs.Tracing.{in_largest}
 use Rattle.tracing.proofs.Walks.{extended_is, extended_room, stuck}
 use Rattle.tracing.proofs.steps.trace.Goals as goal
 
-pub returns-in-default-step : goal.returns-in-default-step
-returns-in-default-step c = stuck c.args.points.now c.loop-k.k (omega arith) (omega arith) c.in-default-step.ensures
+pub returns-in_default-step : goal.returns-in_default-step
+returns-in_default-step c = stuck c.args.points.now c.loop-k.k (omega arith) (omega arith) c.in_default-step.ensures
 
-pub returns-in-default-extend : goal.returns-in-default-extend
-returns-in-default-extend c = λ rules.
+pub returns-in_default-extend : goal.returns-in_default-extend
+returns-in_default-extend c = λ rules.
     let ps = c.args.points.now in
     let k = c.loop-k.k in
     let d = c.in-Some.direction in
     let step = c.in-Some.ensures in
     let few : length ps ≤ 256 = rules.count.1 in
     let same = ap (λ p. extended p d) c.loop-k.invariant in
-    c.in-default-extend.not-Ok tt (c.extend.ensures.said ∙ ap answer (same ∙ extended_is ps k d (omega arith) (omega arith) (omega arith) step.0 step.1))
+    c.in_default-extend.not-Ok tt (c.extend.ensures.said ∙ ap answer (same ∙ extended_is ps k d (omega arith) (omega arith) (omega arith) step.0 step.1))
 
 pub loop-k-preserved : goal.loop-k-preserved
 loop-k-preserved c =

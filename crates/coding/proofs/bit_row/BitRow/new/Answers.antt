@@ -7,4 +7,4 @@ use Rattle.coding.proofs.bit_row.BitRow.new.Goals as goal
 pub returns : goal.returns
 returns c =
     let bytes = c.args.bytes.now in
-    take_min c.saturating-mul.result 18446744073709551615 (bits_of bytes) (omega (arith, length_bits_of bytes))
+    take_min c.saturating_mul.result 18446744073709551615 (bits_of bytes) (omega (arith, length_bits_of bytes))

@@ -15,16 +15,16 @@ returns-then-n-gt-WIDEST c =
       | then-n-gt-WIDEST-via-else-n-gt-WIDEST+then-n-self w ↦ sym (number_none c.args.n row (inr (omega (arith, row_length c.args.self, w.if-n-self.true))))
     ]
 
-pub returns-in-err-bit : goal.returns-in-err-bit
-returns-in-err-bit c =
+pub returns-in_err-bit : goal.returns-in_err-bit
+returns-in_err-bit c =
     let row = row_bits c.args.self in
-    none-some _ (c.in-err-bit.ensures ∙ slice_get-get_or row c.loop-k.k false (omega (arith, row_length c.args.self)))
+    none-some _ (c.in_err-bit.ensures ∙ slice_get-get_or row c.loop-k.k false (omega (arith, row_length c.args.self)))
 
-module _ (c : goal.In-ok-bit) where
-  more : 2 * c.loop-k.number + bool_byte c.in-ok-bit.bit ≡ value (take (c.loop-k.k + 1) (row_bits c.args.self))
+module _ (c : goal.In_ok-bit) where
+  more : 2 * c.loop-k.number + bool_byte c.in_ok-bit.bit ≡ value (take (c.loop-k.k + 1) (row_bits c.args.self))
   more =
-      ap (λ b. 2 * c.loop-k.number + b) (byte c.in-ok-bit.bit)
-      ∙ value_more (row_bits c.args.self) c.loop-k.k c.loop-k.number c.in-ok-bit.bit (omega (arith, row_length c.args.self)) c.loop-k.invariant (sym c.in-ok-bit.ensures)
+      ap (λ b. 2 * c.loop-k.number + b) (byte c.in_ok-bit.bit)
+      ∙ value_more (row_bits c.args.self) c.loop-k.k c.loop-k.number c.in_ok-bit.bit (omega (arith, row_length c.args.self)) c.loop-k.invariant (sym c.in_ok-bit.ensures)
     where
       byte : (b : Bool) → bool_byte b ≡ cond b 1 0
       byte true = refl
@@ -33,11 +33,11 @@ module _ (c : goal.In-ok-bit) where
   bound : value (take (c.loop-k.k + 1) (row_bits c.args.self)) < 2 ^ 32
   bound = value_bound (row_bits c.args.self) (c.loop-k.k + 1) 32 (omega arith) (omega (arith, row_length c.args.self))
 
-pub overflow-mul-number : goal.overflow-mul-number
-overflow-mul-number c = omega (arith, more c, bound c)
+pub overflow_mul-number : goal.overflow_mul-number
+overflow_mul-number c = omega (arith, more c, bound c)
 
-pub overflow-add-number : goal.overflow-add-number
-overflow-add-number c = omega (arith, more c, bound c)
+pub overflow_add-number : goal.overflow_add-number
+overflow_add-number c = omega (arith, more c, bound c)
 
 pub loop-k-preserved : goal.loop-k-preserved
 loop-k-preserved c = more c

@@ -6,38 +6,38 @@ use Rattle.coding.specs.Fields.{number_is, number_short, begins_fits}
 use Rattle.coding.specs.Flats.{flat_is, flat_fields, flat_read}
 use Rattle.coding.proofs.flat.FlatCoder.read.Goals as goal
 
-pub returns-in-err-bits : goal.returns-in-err-bits
-returns-in-err-bits c =
+pub returns-in_err-bits : goal.returns-in_err-bits
+returns-in_err-bits c =
     let row = row_bits c.args.row in
-    let short = number_short 22 row (omega arith) (sym c.in-err-bits.ensures) in
-    subst (Reads flat row) (sym c.from-residual.ensures) (λ x y code e b. omega (arith, (flat_is x y code e).3, begins_fits code row b))
+    let short = number_short 22 row (omega arith) (sym c.in_err-bits.ensures) in
+    subst (Reads flat row) (sym c.from_residual.ensures) (λ x y code e b. omega (arith, (flat_is x y code e).3, begins_fits code row b))
 
 pub signed-requires : goal.signed-requires
 signed-requires c =
-    let is = number_is 22 (row_bits c.args.row) c.in-ok-bits.bits (sym c.in-ok-bits.ensures) in
+    let is = number_is 22 (row_bits c.args.row) c.in_ok-bits.bits (sym c.in_ok-bits.ensures) in
     omega (arith, is.1)
 
-pub returns-in-err-dx : goal.returns-in-err-dx
-returns-in-err-dx c =
+pub returns-in_err-dx : goal.returns-in_err-dx
+returns-in_err-dx c =
     let row = row_bits c.args.row in
-    let v = c.in-ok-bits.bits in
-    let is = number_is 22 row v (sym c.in-ok-bits.ensures) in
-    subst (Reads flat row) (sym c.from-residual-in-err-dx.ensures)
-    (λ x y code e b. let parts = flat_fields v row is.1 is.2 x y code e b in c.in-err-dx.ensures x parts.0 parts.1)
+    let v = c.in_ok-bits.bits in
+    let is = number_is 22 row v (sym c.in_ok-bits.ensures) in
+    subst (Reads flat row) (sym c.from_residual-in_err-dx.ensures)
+    (λ x y code e b. let parts = flat_fields v row is.1 is.2 x y code e b in c.in_err-dx.ensures x parts.0 parts.1)
 
-pub returns-in-err-dy : goal.returns-in-err-dy
-returns-in-err-dy c =
+pub returns-in_err-dy : goal.returns-in_err-dy
+returns-in_err-dy c =
     let row = row_bits c.args.row in
-    let v = c.in-ok-bits.bits in
-    let is = number_is 22 row v (sym c.in-ok-bits.ensures) in
-    subst (Reads flat row) (sym c.from-residual-in-err-dy.ensures)
-    (λ x y code e b. let parts = flat_fields v row is.1 is.2 x y code e b in c.in-err-dy.ensures y parts.2 parts.3)
+    let v = c.in_ok-bits.bits in
+    let is = number_is 22 row v (sym c.in_ok-bits.ensures) in
+    subst (Reads flat row) (sym c.from_residual-in_err-dy.ensures)
+    (λ x y code e b. let parts = flat_fields v row is.1 is.2 x y code e b in c.in_err-dy.ensures y parts.2 parts.3)
 
 pub returns : goal.returns
 returns c =
     let row = row_bits c.args.row in
-    let v = c.in-ok-bits.bits in
-    let is = number_is 22 row v (sym c.in-ok-bits.ensures) in
-    let x = c.in-ok-dx.ensures in
-    let y = c.in-ok-dy.ensures in
-    flat_read v row is.1 is.2 c.in-ok-dx.dx c.in-ok-dy.dy x.0 y.0 x.1 y.1
+    let v = c.in_ok-bits.bits in
+    let is = number_is 22 row v (sym c.in_ok-bits.ensures) in
+    let x = c.in_ok-dx.ensures in
+    let y = c.in_ok-dy.ensures in
+    flat_read v row is.1 is.2 c.in_ok-dx.dx c.in_ok-dy.dy x.0 y.0 x.1 y.1

@@ -5,46 +5,46 @@ use Rattle.coding.specs.Tables.{Reads}
 use Rattle.coding.specs.Pairs.{pair_none, side_length, read_unmarked, read_other, read_same}
 use Rattle.coding.proofs.pair.PairCoder.read.Goals as goal
 
-pub returns-in-err-dx : goal.returns-in-err-dx
-returns-in-err-dx g c =
+pub returns-in_err-dx : goal.returns-in_err-dx
+returns-in_err-dx g c =
     let t = g.A.Coder.table c.args.self.now.first in
     let u = g.B.Coder.table c.args.self.now.second in
     let row = row_bits c.args.row in
-    let m = c.in-ok-second.second in
-    subst (Reads (pair t u) row) (sym c.from-residual-in-err-dx.ensures)
-    (pair_none t u (g.met.A.Coder.codes c.args.self.now.first) (g.met.B.Coder.codes c.args.self.now.second) row m c.in-ok-second.ensures
-    (subst (λ r. Reads (side m t u) r None) c.skip.ensures c.in-err-dx.ensures))
+    let m = c.in_ok-second.second in
+    subst (Reads (pair t u) row) (sym c.from_residual-in_err-dx.ensures)
+    (pair_none t u (g.met.A.Coder.codes c.args.self.now.first) (g.met.B.Coder.codes c.args.self.now.second) row m c.in_ok-second.ensures
+    (subst (λ r. Reads (side m t u) r None) c.skip.ensures c.in_err-dx.ensures))
 
-pub overflow-add-found : goal.overflow-add-found
-overflow-add-found g c =
+pub overflow_add-found : goal.overflow_add-found
+overflow_add-found g c =
     let t = g.A.Coder.table c.args.self.now.first in
     let u = g.B.Coder.table c.args.self.now.second in
-    omega (arith, side_length t u (g.met.A.Coder.codes c.args.self.now.first) (g.met.B.Coder.codes c.args.self.now.second) (row_bits c.args.row) c.in-ok-second.second c.in-ok-dx.dx c.in-ok-dx.dy c.in-ok-dx.n (row_bits c.skip.result) c.in-ok-dx.ensures)
+    omega (arith, side_length t u (g.met.A.Coder.codes c.args.self.now.first) (g.met.B.Coder.codes c.args.self.now.second) (row_bits c.args.row) c.in_ok-second.second c.in_ok-dx.dx c.in_ok-dx.dy c.in_ok-dx.n (row_bits c.skip.result) c.in_ok-dx.ensures)
 
-pub returns-in-err-used : goal.returns-in-err-used
-returns-in-err-used g c =
+pub returns-in_err-used : goal.returns-in_err-used
+returns-in_err-used g c =
     let t = g.A.Coder.table c.args.self.now.first in
     let u = g.B.Coder.table c.args.self.now.second in
     let row = row_bits c.args.row in
-    let fx : SFits w16 c.in-ok-dx.dx = search rules in
-    let fy : SFits w16 c.in-ok-dx.dy = search rules in
-    subst (Reads (pair t u) row) (sym c.from-residual-in-err-used.ensures)
-    (read_unmarked t u (g.met.A.Coder.codes c.args.self.now.first) (g.met.B.Coder.codes c.args.self.now.second) row (row_bits c.skip.result) c.in-ok-second.second c.in-ok-dx.dx c.in-ok-dx.dy c.in-ok-dx.n fx fy c.in-ok-second.ensures c.skip.ensures c.in-ok-dx.ensures c.in-err-used.ensures)
+    let fx : SFits w16 c.in_ok-dx.dx = search rules in
+    let fy : SFits w16 c.in_ok-dx.dy = search rules in
+    subst (Reads (pair t u) row) (sym c.from_residual-in_err-used.ensures)
+    (read_unmarked t u (g.met.A.Coder.codes c.args.self.now.first) (g.met.B.Coder.codes c.args.self.now.second) row (row_bits c.skip.result) c.in_ok-second.second c.in_ok-dx.dx c.in_ok-dx.dy c.in_ok-dx.n fx fy c.in_ok-second.ensures c.skip.ensures c.in_ok-dx.ensures c.in_err-used.ensures)
 
 pub returns-then-used-second : goal.returns-then-used-second
 returns-then-used-second g c =
     let t = g.A.Coder.table c.args.self.now.first in
     let u = g.B.Coder.table c.args.self.now.second in
     let row = row_bits c.args.row in
-    let fx : SFits w16 c.in-ok-dx.dx = search rules in
-    let fy : SFits w16 c.in-ok-dx.dy = search rules in
-    read_same t u (g.met.A.Coder.codes c.args.self.now.first) (g.met.B.Coder.codes c.args.self.now.second) row (row_bits c.skip.result) c.in-ok-second.second c.in-ok-dx.dx c.in-ok-dx.dy c.in-ok-dx.n fx fy c.in-ok-second.ensures c.skip.ensures c.in-ok-dx.ensures c.in-ok-used.used c.in-ok-used.field-0-1 c.in-ok-used.ensures c.if-used-second.true
+    let fx : SFits w16 c.in_ok-dx.dx = search rules in
+    let fy : SFits w16 c.in_ok-dx.dy = search rules in
+    read_same t u (g.met.A.Coder.codes c.args.self.now.first) (g.met.B.Coder.codes c.args.self.now.second) row (row_bits c.skip.result) c.in_ok-second.second c.in_ok-dx.dx c.in_ok-dx.dy c.in_ok-dx.n fx fy c.in_ok-second.ensures c.skip.ensures c.in_ok-dx.ensures c.in_ok-used.used c.in_ok-used.field-0-1 c.in_ok-used.ensures c.if-used-second.true
 
 pub returns-else-used-second : goal.returns-else-used-second
 returns-else-used-second g c =
     let t = g.A.Coder.table c.args.self.now.first in
     let u = g.B.Coder.table c.args.self.now.second in
     let row = row_bits c.args.row in
-    let fx : SFits w16 c.in-ok-dx.dx = search rules in
-    let fy : SFits w16 c.in-ok-dx.dy = search rules in
-    read_other t u (g.met.A.Coder.codes c.args.self.now.first) (g.met.B.Coder.codes c.args.self.now.second) row (row_bits c.skip.result) c.in-ok-second.second c.in-ok-dx.dx c.in-ok-dx.dy c.in-ok-dx.n fx fy c.in-ok-second.ensures c.skip.ensures c.in-ok-dx.ensures c.in-ok-used.used c.in-ok-used.field-0-1 c.in-ok-used.ensures c.if-used-second.false
+    let fx : SFits w16 c.in_ok-dx.dx = search rules in
+    let fy : SFits w16 c.in_ok-dx.dy = search rules in
+    read_other t u (g.met.A.Coder.codes c.args.self.now.first) (g.met.B.Coder.codes c.args.self.now.second) row (row_bits c.skip.result) c.in_ok-second.second c.in_ok-dx.dx c.in_ok-dx.dy c.in_ok-dx.n fx fy c.in_ok-second.ensures c.skip.ensures c.in_ok-dx.ensures c.in_ok-used.used c.in_ok-used.field-0-1 c.in_ok-used.ensures c.if-used-second.false

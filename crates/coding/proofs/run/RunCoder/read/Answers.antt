@@ -10,20 +10,20 @@ use Rattle.coding.specs.Legs.{leg_read, leg_none}
 use Rattle.coding.specs.Runs.{run_bits, run_at, run_is, run_length, run_class, run_begins, run_ends}
 use Rattle.coding.proofs.run.RunCoder.read.Goals as goal
 
-pub returns-in-err-head : goal.returns-in-err-head
-returns-in-err-head c =
+pub returns-in_err-head : goal.returns-in_err-head
+returns-in_err-head c =
     let row = row_bits c.args.row in
-    let short = number_short 5 row (omega arith) (sym c.in-err-head.ensures) in
-    subst (Reads (by_direction run_code) row) (sym c.from-residual.ensures)
+    let short = number_short 5 row (omega arith) (sym c.in_err-head.ensures) in
+    subst (Reads (by_direction run_code) row) (sym c.from_residual.ensures)
     (leg_none run_code row (λ d l code small some e b. omega (arith, ap length (sym (run_is d l code e).1) ∙ run_length d l, begins_fits code row b)))
 
-pub returns-in-err-low : goal.returns-in-err-low
-returns-in-err-low c =
+pub returns-in_err-low : goal.returns-in_err-low
+returns-in_err-low c =
     let row = row_bits c.args.row in
-    let h = c.in-ok-head.head in
-    let is = number_is 5 row h (sym c.in-ok-head.ensures) in
-    let short = number_short (h % 4) (drop 5 row) (omega arith) (ap (front_number (h % 4)) (sym c.skip.ensures) ∙ sym c.in-err-low.ensures) in
-    subst (Reads (by_direction run_code) row) (sym c.from-residual-in-err-low.ensures)
+    let h = c.in_ok-head.head in
+    let is = number_is 5 row h (sym c.in_ok-head.ensures) in
+    let short = number_short (h % 4) (drop 5 row) (omega arith) (ap (front_number (h % 4)) (sym c.skip.ensures) ∙ sym c.in_err-low.ensures) in
+    subst (Reads (by_direction run_code) row) (sym c.from_residual-in_err-low.ensures)
     (leg_none run_code row (λ d l code small some e b. omega (arith, run_ends row h 0 is.1 is.2 d l code small some e b, short, length-drop 5 row)))
 
 -- the two numbers at the front of the row
@@ -39,29 +39,29 @@ module _ (row rest : List Bool) (h r : ℕ) (e : Some h ≡ front_number 5 row) 
       let few : h % 4 ≤ 3 = omega arith in
       (omega (arith, is, low.0), omega (arith, is, low.0, pow-le-pow_right {n = 2} (omega arith) few))
 
-pub overflow-cast-head : goal.overflow-cast-head
-overflow-cast-head c = omega (arith, (number_is 5 (row_bits c.args.row) c.in-ok-head.head (sym c.in-ok-head.ensures)).1)
+pub overflow_cast-head : goal.overflow_cast-head
+overflow_cast-head c = omega (arith, (number_is 5 (row_bits c.args.row) c.in_ok-head.head (sym c.in_ok-head.ensures)).1)
 
-pub overflow-add-highest : goal.overflow-add-highest
-overflow-add-highest c = omega (arith, short _ _ _ _ c.in-ok-head.ensures c.skip.ensures c.in-ok-low.ensures c.highest.result c.highest.ensures)
+pub overflow_add-highest : goal.overflow_add-highest
+overflow_add-highest c = omega (arith, short _ _ _ _ c.in_ok-head.ensures c.skip.ensures c.in_ok-low.ensures c.highest.result c.highest.ensures)
 
-pub overflow-cast-highest : goal.overflow-cast-highest
-overflow-cast-highest c = omega (arith, short _ _ _ _ c.in-ok-head.ensures c.skip.ensures c.in-ok-low.ensures c.highest.result c.highest.ensures)
+pub overflow_cast-highest : goal.overflow_cast-highest
+overflow_cast-highest c = omega (arith, short _ _ _ _ c.in_ok-head.ensures c.skip.ensures c.in_ok-low.ensures c.highest.result c.highest.ensures)
 
 pub displacement-dx-requires : goal.displacement-dx-requires
 displacement-dx-requires c =
-    let few = head _ _ _ _ c.in-ok-head.ensures c.skip.ensures c.in-ok-low.ensures in
-    let fits = short _ _ _ _ c.in-ok-head.ensures c.skip.ensures c.in-ok-low.ensures c.highest.result c.highest.ensures in
+    let few = head _ _ _ _ c.in_ok-head.ensures c.skip.ensures c.in_ok-low.ensures in
+    let fits = short _ _ _ _ c.in_ok-head.ensures c.skip.ensures c.in_ok-low.ensures c.highest.result c.highest.ensures in
     (omega (arith, few.0), omega (arith, fits))
 
 pub returns : goal.returns
 returns c =
     let row = row_bits c.args.row in
-    let h = c.in-ok-head.head in
-    let r = c.in-ok-low.low in
-    let few = head _ _ _ _ c.in-ok-head.ensures c.skip.ensures c.in-ok-low.ensures in
-    let rest = low _ _ _ _ c.in-ok-head.ensures c.skip.ensures c.in-ok-low.ensures in
-    let fits = short _ _ _ _ c.in-ok-head.ensures c.skip.ensures c.in-ok-low.ensures (2 ^ (h % 4)) refl in
+    let h = c.in_ok-head.head in
+    let r = c.in_ok-low.low in
+    let few = head _ _ _ _ c.in_ok-head.ensures c.skip.ensures c.in_ok-low.ensures in
+    let rest = low _ _ _ _ c.in_ok-head.ensures c.skip.ensures c.in_ok-low.ensures in
+    let fits = short _ _ _ _ c.in_ok-head.ensures c.skip.ensures c.in_ok-low.ensures (2 ^ (h % 4)) refl in
     let l = 2 ^ (h % 4) + r in
     leg_read run_code row (h / 4) l (5 + h % 4) c.displacement-dx.result (run_bits (h / 4) l) (omega (arith, few.0)) fits.0 (omega (arith, fits.1))
     (c.displacement-dx.ensures ∙ ap (λ k. taken (h / 4) (k + r)) c.highest.ensures) (run_at (h / 4) l fits.1) (run_begins row h r few.0 few.1 rest.0 rest.1)

@@ -15,22 +15,13 @@ invariant_of-self c =
     let n = length_push ps q in
     let last = c.last-last.ensures in
     let step = ap (λ p. moved o.width o.height p c.args.direction) (sym last) ∙ sym c.moved.ensures ∙ c.in-Some.is in
-    let to : (P : List Point → Type 0) → P (ps ++ q ∷ []) → P (held c.push.new.self) = λ P. subst P (sym more) in (
-      o.wide,
-      (
-        o.narrow,
-        (
-          o.tall,
-          (
-            o.low,
-            (
-              to (λ xs. 1 ≤ length xs) (omega arith),
-              (
-                to (Framed o.width o.height) (framed_push o.width o.height ps q o.framed (displaced_inside o.width o.height (get_or ps (length ps - 1) origin) (move c.args.direction).0 (move c.args.direction).1 q step)),
-                (to (Traced o.width o.height) (traced_push o.width o.height ps q c.args.direction o.traced o.some (omega arith) step), tt),
-              ),
-            ),
-          ),
-        ),
-      ),
-    )
+    let to : (P : List Point → Type 0) → P (ps ++ q ∷ []) → P (held c.push.new.self) = λ P. subst P (sym more) in
+    record {
+      wide = o.wide;
+      narrow = o.narrow;
+      tall = o.tall;
+      low = o.low;
+      some = to (λ xs. 1 ≤ length xs) (omega arith);
+      framed = to (Framed o.width o.height) (framed_push o.width o.height ps q o.framed (displaced_inside o.width o.height (get_or ps (length ps - 1) origin) (move c.args.direction).0 (move c.args.direction).1 q step));
+      traced = to (Traced o.width o.height) (traced_push o.width o.height ps q c.args.direction o.traced o.some (omega arith) step);
+    }

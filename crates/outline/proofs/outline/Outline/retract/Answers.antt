@@ -10,22 +10,13 @@ invariant_of-self c =
     let ps = held o.points in
     let less = c.pop.ensures in
     let m = length-take (length ps - 1) ps in
-    let to : (P : List Point → Type 0) → P (take (length ps - 1) ps) → P (held c.pop.new.self) = λ P. subst P (sym less) in (
-      o.wide,
-      (
-        o.narrow,
-        (
-          o.tall,
-          (
-            o.low,
-            (
-              to (λ xs. 1 ≤ length xs) (omega arith),
-              (
-                to (Framed o.width o.height) (framed_take o.width o.height ps _ o.framed),
-                (to (Traced o.width o.height) (traced_take o.width o.height ps _ o.traced), tt),
-              ),
-            ),
-          ),
-        ),
-      ),
-    )
+    let to : (P : List Point → Type 0) → P (take (length ps - 1) ps) → P (held c.pop.new.self) = λ P. subst P (sym less) in
+    record {
+      wide = o.wide;
+      narrow = o.narrow;
+      tall = o.tall;
+      low = o.low;
+      some = to (λ xs. 1 ≤ length xs) (omega arith);
+      framed = to (Framed o.width o.height) (framed_take o.width o.height ps _ o.framed);
+      traced = to (Traced o.width o.height) (traced_take o.width o.height ps _ o.traced);
+    }
