@@ -78,6 +78,6 @@ returns g c =
     let l = c.loop-k in
     let after = c.finish.new.body in
     let held = c.finish.ensures in
-    let small : (i : ℕ) → get_or after i 0 < 256 = λ i. (c.type-inv.body i).fits in
+    let small : (i : ℕ) → get_or after i 0 < 256 = λ i. (c.type_inv.body i).fits in
     ap (option_map bytes_of) (coming_end t vs l.k (put_bits l.body l.tail) c.loop-k-test.false l.invariant.2)
     ∙ ap Some (bytes_back after (put_bits l.body l.tail) held.0 small held.2 held.1)

@@ -28,9 +28,9 @@ returns c =
     let bs = c.args.bytes.now in
     let h = c.in_ok-head.head in
     let parts = c.in_ok-head.ensures in
-    let small : (i : ℕ) → get_or bs i 0 < 256 = λ i. (c.type-inv.bytes i).fits in
+    let small : (i : ℕ) → get_or bs i 0 < 256 = λ i. (c.type_inv.bytes i).fits in
     let k = c.in-Ok.coder in
     let known : all_kinds (word_at bs 2) ≡ Some (kind_table k) = kind_known k (word_at bs 2) (c.in-Ok.ensures ∙ parts.1) in
-    let after = c.read_body.new.list in
-    let right = read_right all_kinds bs (kind_table k) parts.0 small known h.kind h.start h.edges h.codes.now c.args.list.now after c.read_body.result parts.1 parts.2 parts.3 parts.4 c.read_body.ensures in
+    let after = c.read_after_head.new.list in
+    let right = read_right all_kinds bs (kind_table k) parts.0 small known h.kind h.start h.edges h.codes.now c.args.list.now after c.read_after_head.result parts.1 parts.2 parts.3 parts.4 c.read_after_head.ensures in
     record { right = right; exact = read_exact all_kinds kinds_codes bs c.args.list.now after _ (omega arith) right }

@@ -29,9 +29,9 @@ returns g c =
     let k = c.args.kind in
     let h = c.in_ok-head.head in
     let parts = c.in_ok-head.ensures in
-    let small : (i : ℕ) → get_or bs i 0 < 256 = λ i. (c.type-inv.bytes i).fits in
+    let small : (i : ℕ) → get_or bs i 0 < 256 = λ i. (c.type_inv.bytes i).fits in
     let same : word_at bs 2 ≡ k = sym parts.1 ∙ c.if-head-kind.false in
-    let after = c.read_body.new.list in
+    let after = c.read_after_head.new.list in
     let right =
-    read_right (only k t) bs t parts.0 small (only_kind k (word_at bs 2) t same) h.kind h.start h.edges h.codes.now c.args.list.now after c.read_body.result parts.1 parts.2 parts.3 parts.4 c.read_body.ensures in
+    read_right (only k t) bs t parts.0 small (only_kind k (word_at bs 2) t same) h.kind h.start h.edges h.codes.now c.args.list.now after c.read_after_head.result parts.1 parts.2 parts.3 parts.4 c.read_after_head.ensures in
     record { right = right; exact = read_exact (only k t) (only_codes k t (g.met.C.Coder.codes c.args.coder.now)) bs c.args.list.now after _ (omega arith) right }

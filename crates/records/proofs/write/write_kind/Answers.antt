@@ -11,8 +11,8 @@ use Rattle.records.proofs.Recording.{bits_few, writes_none, writes_short, writes
 use Rattle.records.proofs.Summed.{bits_are_codes, summed}
 use Rattle.records.proofs.write.write_kind.Goals as goal
 
-pub slice-bounds-corners-end : goal.slice-bounds-corners-end
-slice-bounds-corners-end g c =
+pub slice_bounds-corners-end : goal.slice_bounds-corners-end
+slice_bounds-corners-end g c =
     let few : length c.args.list.now ≤ 256 = (list_few c.args.outline.now c.args.list.now (c.if-not-is_polygon.ensures.0 refl)).1 in
     search rules
 

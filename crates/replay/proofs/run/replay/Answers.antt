@@ -13,7 +13,7 @@ loop-i-init g c = (omega arith, done (rules_of c.args.outline.now), refl)
 
 pub loop-i-preserved : goal.loop-i-preserved
 loop-i-preserved g c =
-    let t = tools g.Cost.Cost.cost (g.W.Weigher.weight c.args.weigher.now) (g.C.Coder.table c.args.coder.now) (g.M.Measure.strays c.args.measure.now) in
+    let t = tools g.W.Cost.Cost.cost (g.W.Weigher.weight c.args.weigher.now) (g.C.Coder.table c.args.coder.now) (g.M.Measure.strays c.args.measure.now) in
     let i = c.loop-i.i in
     let cs = c.args.calls.now in
     let es = c.loop-i.entries in
@@ -28,7 +28,7 @@ loop-i-preserved g c =
 
 pub returns-after-loop-i : goal.returns-after-loop-i
 returns-after-loop-i g c =
-    let t = tools g.Cost.Cost.cost (g.W.Weigher.weight c.args.weigher.now) (g.C.Coder.table c.args.coder.now) (g.M.Measure.strays c.args.measure.now) in
+    let t = tools g.W.Cost.Cost.cost (g.W.Weigher.weight c.args.weigher.now) (g.C.Coder.table c.args.coder.now) (g.M.Measure.strays c.args.measure.now) in
     let cs = c.args.calls.now in
     let old = c.args.entries.now in
     let es = c.loop-i.entries in
@@ -43,7 +43,7 @@ returns-after-loop-i g c =
 
 pub returns-then-i-entries : goal.returns-then-i-entries
 returns-then-i-entries g c =
-    let t = tools g.Cost.Cost.cost (g.W.Weigher.weight c.args.weigher.now) (g.C.Coder.table c.args.coder.now) (g.M.Measure.strays c.args.measure.now) in
+    let t = tools g.W.Cost.Cost.cost (g.W.Weigher.weight c.args.weigher.now) (g.C.Coder.table c.args.coder.now) (g.M.Measure.strays c.args.measure.now) in
     let cs = c.args.calls.now in
     let old = c.args.entries.now in
     let es = c.loop-i.entries in

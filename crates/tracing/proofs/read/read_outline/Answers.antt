@@ -5,8 +5,8 @@ use Rattle.tracing.specs.Tracing.{chain_only, in_largest}
 use Rattle.tracing.proofs.Chains.{accepted_rules, kind_four, front_read, front_fits}
 use Rattle.tracing.proofs.read.read_outline.Goals as goal
 
-pub slice-bounds-trace-end : goal.slice-bounds-trace-end
-slice-bounds-trace-end c =
+pub slice_bounds-trace-end : goal.slice_bounds-trace-end
+slice_bounds-trace-end c =
     let r = c.in_ok-reading.ensures.right in
     let fits = front_fits c.read_chain.new.list r.0 _ c.in_ok-reading.reading.vertices r.3 r.2 in
     omega arith
