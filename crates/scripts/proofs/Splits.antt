@@ -1,5 +1,5 @@
 -- Numbers with a space after them.
-use Rattle.std.proofs.Common.{◌≡◌, ℕ, suc, ◌^◌, ◌<◌, List, [], ◌∷◌, ◌++◌, length, get_or, Some, None, decimal, Option, sym, refl, ap, ◌∙◌, subst, arith, lit<, Bor, MutBor}
+use Rattle.std.proofs.Common.{◌≡◌, ℕ, suc, ◌^◌, ◌<◌, List, [], ◌∷◌, ◌++◌, length, get_or, Some, None, decimal, Option, sym, refl, ap, ◌∙◌, subst, arith, lit<, Bor}
 use Rattle.std.proofs.lemmas.Fmt.{decimal_injective}
 use Rattle.std.proofs.lemmas.Str.Pattern.{IsSplitOnceResult, split_after, split_parts}
 use Rattle.std.specs.Result.{OkIff}
@@ -50,8 +50,8 @@ too_wide t n r split above m rest fits e =
     above (subst (λ (x : ℕ). x < 2 ^ 16) (one_front t m n rest r.now (omega arith) split.0 e split.1).0 fits)
 
 -- what follows the first number, where another reading of the text begins with a number too
-pub follows : (t : List ℕ) (n m : ℕ) (r : MutBor (List ℕ)) (x : List ℕ) → Splits (2 ^ 64) t (Some (n, r)) → m < 2 ^ 64 → t ≡ spaced m x → r.now ≡ x
+pub follows : (t : List ℕ) (n m : ℕ) (r : Bor (List ℕ)) (x : List ℕ) → Splits (2 ^ 64) t (Some (n, r)) → m < 2 ^ 64 → t ≡ spaced m x → r.now ≡ x
 follows t n m r x split small e = (one_front t n m r.now x split.0 small split.1 e).1
 
-pub follows16 : (t : List ℕ) (n m : ℕ) (r : MutBor (List ℕ)) (x : List ℕ) → Splits (2 ^ 16) t (Some (n, r)) → m < 2 ^ 16 → t ≡ spaced m x → r.now ≡ x
+pub follows16 : (t : List ℕ) (n m : ℕ) (r : Bor (List ℕ)) (x : List ℕ) → Splits (2 ^ 16) t (Some (n, r)) → m < 2 ^ 16 → t ≡ spaced m x → r.now ≡ x
 follows16 t n m r x split small e = let fits = split.0 in follows t n m r x (omega arith, split.1) (omega arith) e

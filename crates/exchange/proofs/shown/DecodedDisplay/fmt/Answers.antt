@@ -10,12 +10,12 @@ loop-vertex-init g c = λ plain. record { wrote = writes_in_calls_nil g.W.Write.
 pub loop-vertex-preserved : goal.loop-vertex-preserved
 loop-vertex-preserved g c = λ plain.
     let before = c.loop-vertex.invariant plain in
-    let line = c.in_ok-writeln-2.ensures.shows before.plain refl in
+    let line = c.in_ok-writeln-2.ensures.writes before.plain refl in
     has_written_of_eq g.W.Write.write_str_gives _ _ _ _ (lines_more _ _ _ c.loop-vertex-test.true) (has_written_append g.W.Write.write_str_gives _ _ _ _ _ before line)
 
 pub returns-clause-writes : goal.returns-clause-writes
 returns-clause-writes g c = λ plain ok.
-    let head = c.in_ok-writeln.ensures.shows plain refl in
+    let head = c.in_ok-writeln.ensures.writes plain refl in
     let rest = c.loop-vertex.invariant head.plain in
     let d = c.args.self.now in
     let few : length d.points ≤ 256 = search rules in
