@@ -5,6 +5,7 @@ use anyhow::anyhow;
 use exchange::{decode, report};
 use std::env;
 use std::io::{Read, Write};
+use std::process::ExitCode;
 
 const USAGE: &str = "usage: decode";
 
@@ -27,6 +28,6 @@ fn run(rt: &HostRuntime) -> anyhow::Result<()> {
     Ok(())
 }
 
-fn main(rt: HostRuntime) -> anyhow::Result<()> {
+fn main(rt: HostRuntime) -> ExitCode {
     report(&rt, run(&rt))
 }

@@ -5,6 +5,7 @@ use anyhow::anyhow;
 use exchange::{MOST_BYTES, Order, encode, report};
 use std::env;
 use std::io::{Read, Write};
+use std::process::ExitCode;
 
 const USAGE: &str = "usage: encode KIND MEASURE TOP BOTTOM
        encode KIND MEASURE BUDGET
@@ -44,6 +45,6 @@ fn run(rt: &HostRuntime) -> anyhow::Result<()> {
     Ok(())
 }
 
-fn main(rt: HostRuntime) -> anyhow::Result<()> {
+fn main(rt: HostRuntime) -> ExitCode {
     report(&rt, run(&rt))
 }

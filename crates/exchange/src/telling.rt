@@ -1,12 +1,18 @@
-ghost use Rattle.std.specs.Prelude.{◌≡◌, is_ok};
+ghost use Rattle.std.specs.Prelude.{◌≡◌, if◌then◌else◌, is_ok};
+ghost use Rattle.std.specs.Process.{exit_status};
 
-// Tells an error on standard error, and hands the result on.
+use std::process::ExitCode;
 
-pub fn report(rt: &HostRuntime, res: anyhow::Result<()>) -> anyhow::Result<()>
-    ensures { is_ok result ≡ is_ok res }
+// Tells an error on standard error, and answers the status to end with.
+pub fn report(rt: &HostRuntime, res: anyhow::Result<()>) -> ExitCode
+    ensures { exit_status result ≡ (if is_ok res then 0 else 1) }
 {
-    if let Err(error) = &res {
-        eprintln!(rt; "{error}")?;
+    match res {
+        Ok(()) => ExitCode::SUCCESS,
+        Err(error) => {
+            // The status tells of the error also where it cannot be written.
+            let _ = eprintln!(rt; "{error}");
+            ExitCode::FAILURE
+        }
     }
-    res
 }

@@ -30,8 +30,7 @@ fn encode_told(
 }
 
 // The cheapest polygon within a tolerance.
-#[unsafe(no_mangle)]
-pub extern "C" fn polygon_cheapest(
+pub fn polygon_cheapest(
     chain: &[u8],
     kind: u16,
     pace: bool,
@@ -47,8 +46,7 @@ pub extern "C" fn polygon_cheapest(
 }
 
 // The closest polygon within a budget of bits.
-#[unsafe(no_mangle)]
-pub extern "C" fn polygon_closest(
+pub fn polygon_closest(
     chain: &[u8],
     kind: u16,
     pace: bool,

@@ -5,8 +5,7 @@ use outline::Point;
 use records::{Reading, read};
 
 // The kind and the vertices of a record of any kind.
-#[unsafe(no_mangle)]
-pub extern "C" fn polygon_read(bytes: &[u8], list: &mut [Point], reading: &mut Reading) -> i32
+pub fn polygon_read(bytes: &[u8], list: &mut [Point], reading: &mut Reading) -> i32
     ensures { ReadTold bytes.now list.old list.new reading.old reading.new result }
 {
     match read(bytes, list) {
