@@ -27,7 +27,7 @@ done
 
 cd "$(dirname "$0")/.." || exit 1
 # What is compared is a library that is proved.
-"${RT:-rt}" staticlib firmware || exit 1
+tools/staticlib.sh || exit 1
 export POLYGON_LIB=$PWD/target/staticlib/libfirmware.a
 cargo build --quiet --release --features proved --manifest-path bench/Cargo.toml || exit 1
 compare=bench/target/release/compare

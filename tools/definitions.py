@@ -5,6 +5,7 @@
   tools/definitions.py --check   say whether docs/PROOF.md has them as they are now, and whether
                                  each definition that a public contract cites is named there
 """
+import functools
 import re
 import sys
 from pathlib import Path
@@ -21,7 +22,7 @@ def sources(crate):
 def imports(text):
     """Each name that a source file takes from specs, with the crate and the file it stands in."""
     names = {}
-    for crate, module, inside in re.findall(r"ghost use Rattle·(\w+)[·.]specs\.(\w+)\.\{([^}]*)\};", text):
+    for crate, module, inside in re.findall(r"ghost use Rattle\.(\w+)\.specs\.(\w+)\.\{([^}]*)\};", text):
         if crate == "std":
             continue
         for name in inside.split(","):
@@ -30,22 +31,39 @@ def imports(text):
     return names
 
 
+@functools.cache
+def laws():
+    """The laws of each trait: its ghost members behind its functions, of which an implementation gives proofs."""
+    found = {}
+    for crate in crates():
+        for path in sources(crate):
+            for trait, body in re.findall(r"^pub trait (\w+)[^{]*\{\n(.*?)^\}", path.read_text(), re.M | re.S):
+                behind = body[body.rindex("    fn ") :] if "    fn " in body else ""
+                found[trait] = set(re.findall(r"^    ghost (\w+):", behind, re.M))
+    return found
+
+
 def calls(text):
     """Each public function, method, trait member and implementation of a file, with the text that says what it means."""
     found = []
     owner, trait, shown = "", False, True
+    proved = laws()
     lines = text.split("\n")
     for k, line in enumerate(lines):
-        head = re.match(r"(pub )?(impl|trait)\b(?:<[^>]*>)? (.*)\{", line)
+        head = re.match(r"(?:pub )?(impl|trait)\b(?:<[^>]*>)? (.*)\{", line)
         if head:
-            words = head.group(3).strip()
-            trait = head.group(2) == "trait"
-            shown = trait or bool(head.group(1)) or " for " not in words
+            words = head.group(2).strip()
+            trait = head.group(1) == "trait"
+            of_trait = " for " in words
+            shown = True
             name = words.split(" for ")[-1].split("<")[0].split(" as ")[0].split(":")[0].strip()
             owner = name + "::"
-            if " for " in words and shown:
-                members = re.findall(r"^    ghost \w+ = \{.*", "\n".join(lines[k:]).split("\n}")[0], re.M)
-                found.append((f"{words.split(' for ')[0].strip()} for {name}", "\n".join(members)))
+            if of_trait:
+                of = words.split(" for ")[0].strip()
+                members = re.findall(r"^    ghost (\w+) = (\{.*)", "\n".join(lines[k:]).split("\n}")[0], re.M)
+                meant = [member for label, member in members if label not in proved.get(of, ())]
+                found.append((f"{of} for {name}", "\n".join(meant)))
+                shown = False
         elif line.startswith("}"):
             owner, trait, shown = "", False, True
         item = re.match(r'\s*(pub )?(?:extern "C" )?fn (\w+)', line)
@@ -66,7 +84,7 @@ def contract_after(lines):
 
 
 def words(contract):
-    return re.findall(r"[\w′-]+", contract)
+    return re.findall(r"[\w'-]+", contract)
 
 
 def cited(contract, names):

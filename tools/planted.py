@@ -10,7 +10,7 @@ A bug is a file tools/planted/CRATE/LABEL.edit of three lines: the file, a text 
 to put in its place. For each bug the prover's answer is printed: refused, with its first error, or SURVIVED: the crate
 is still proved, so that no contract of it tells the bug from the code. The last line has the counts.
 
-Nothing outside target/planted changes: the crates are copied there, with what target/ has proved of them, and each is
+Nothing outside target/planted changes: the crates are copied there, with what earlier checks kept of them, and each is
 checked as it stands before the first bug is planted in it. target/planted/log keeps all that the prover said.
 """
 import argparse
@@ -71,21 +71,17 @@ def planted(bug, folder):
 
 
 def make_tree(tree):
-    """A copy of the crates as they stand, beside what is proved of them."""
+    """A copy of the crates as they stand, with what is proved of them."""
     tree.mkdir(parents=True, exist_ok=True)
     shutil.rmtree(tree / "crates", ignore_errors=True)
     shutil.copytree(ROOT / "crates", tree / "crates", ignore=shutil.ignore_patterns("must-fail"))
     shutil.copy(ROOT / "crates.txt", tree)
-    if not (tree / "target").exists():
-        for part in ("stamp", "rlib", "inc"):
-            if (ROOT / "target" / part).exists():
-                shutil.copytree(ROOT / "target" / part, tree / "target" / part, ignore=shutil.ignore_patterns("*.tests"))
 
 
 def check(tree, crate, log):
     """Checks a crate of the copy: the exit status, what was said, and the seconds."""
     began = time.monotonic()
-    ran = subprocess.run([RT, "dev", crate], cwd=tree, stdout=subprocess.PIPE, stderr=subprocess.STDOUT, text=True)
+    ran = subprocess.run([RT, "check"], cwd=tree / "crates" / crate, stdout=subprocess.PIPE, stderr=subprocess.STDOUT, text=True)
     log.parent.mkdir(parents=True, exist_ok=True)
     log.write_text(ran.stdout)
     return ran.returncode, ran.stdout.replace(f"{tree}/crates/{crate}/", ""), round(time.monotonic() - began)

@@ -1,9 +1,11 @@
 #!/bin/bash
 # Runs encode and decode on good and bad arguments and records, and compares what they write and their status.
-# First: rt check encode decode
 cd "$(dirname "$0")/.." || exit 1
-encode=target/bin/encode
-decode=target/bin/decode
+encode=crates/encode/out/encode
+decode=crates/decode/out/decode
+# Proves and builds both; what they write here is looked at below.
+(cd crates/encode && rt run -- 2 line 2 1 < stdin > /dev/null 2> out/said) || { tail -5 crates/encode/out/said; exit 1; }
+(cd crates/decode && rt run < stdin > /dev/null 2> out/said) || { tail -5 crates/decode/out/said; exit 1; }
 failed=0
 tried=0
 

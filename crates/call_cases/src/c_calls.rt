@@ -70,9 +70,9 @@ fn cheapest_writes_a_record(rt: HostRuntime) {
     let mut written = BEFORE;
     assert!(rt; polygon_cheapest(&L, 2, false, 2, 1, &mut buffer, &mut written) == 0);
     assert!(rt; written.bytes == 10 && written.bits == 6);
-    assert!(rt; &buffer[0..10] == &ENDS && buffer[10] == 7);
+    assert!(rt; &buffer[0..10] == ENDS.as_slice() && buffer[10] == 7);
     assert!(rt; polygon_cheapest(&L, 2, true, 1, 1, &mut buffer, &mut written) == 0);
-    assert!(rt; written.bytes == 11 && written.bits == 12 && &buffer[0..11] == &CORNER);
+    assert!(rt; written.bytes == 11 && written.bits == 12 && &buffer[0..11] == CORNER.as_slice());
 }
 
 #[test]
@@ -81,7 +81,7 @@ fn closest_writes_a_record(rt: HostRuntime) {
     let mut written = BEFORE;
     assert!(rt; polygon_closest(&L, 2, false, 11, &mut buffer, &mut written) == 0);
     assert!(rt; written.bytes == 10 && written.bits == 6);
-    assert!(rt; &buffer[0..10] == &ENDS && buffer[10] == 7);
+    assert!(rt; &buffer[0..10] == ENDS.as_slice() && buffer[10] == 7);
     assert!(rt; polygon_closest(&L, 2, true, 12, &mut buffer, &mut written) == 0);
     assert!(rt; written.bytes == 11 && written.bits == 12 && buffer == CORNER);
 }

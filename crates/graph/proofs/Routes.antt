@@ -1,5 +1,5 @@
 -- Paths: the last step taken off, the values that they come to, and what a table says of them.
-use Rattle.std.proofs.Common.{◌≡◌, ℕ, ◌+◌, ◌<◌, List, [], ◌∷◌, ◌++◌, Some, None, Option, sym, refl, ap, ◌∙◌}
+use Rattle.std.proofs.Common.{◌≡◌, ℕ, ◌<◌, List, [], ◌∷◌, ◌++◌, Some, None, Option, sym, refl, ap, ◌∙◌}
 use Rattle.cost.specs.Cost.{CostOf}
 use Rattle.std.proofs.iter.runs.Lists.{none-some, same_Some}
 use Rattle.graph.specs.Paths.{Rising, cost_on, path_cost, PathTo}

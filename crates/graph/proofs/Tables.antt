@@ -1,5 +1,5 @@
 -- Tables by the rule: there is one, and it grows row by row.
-use Rattle.std.proofs.Common.{◌≡◌, ℕ, zero, suc, ◌+◌, ◌<◌, Bool, List, [], ◌∷◌, ◌++◌, length, Some, Option, sym, ap, ◌∙◌, subst, inl, inr, arith, length-append}
+use Rattle.std.proofs.Common.{◌≡◌, ℕ, zero, suc, ◌<◌, Bool, List, [], ◌∷◌, ◌++◌, length, Some, Option, sym, ap, ◌∙◌, subst, inl, inr, arith, length-append}
 use Rattle.cost.specs.Cost.{CostOf}
 use Rattle.std.proofs.iter.runs.Lists.{same_Some, slice_get_within, nth_left, nth_seam}
 use Rattle.std.proofs.iter.runs.Strides.{nth_beyond}

@@ -23,8 +23,8 @@ fn a_diagonal_step_has_no_axis_code(rt: HostRuntime) -> Result<(), Fail> {
     // From (5, 5) by direction 7.
     match list_record(&[8, 0, 4, 0, 5, 0, 5, 0, 1, 0xe0]) {
         Listing::Kinds(lines) => {
-            assert!(rt; fixed(lines[2]) == b"3 refused 26\n");
-            assert!(rt; fixed(lines[3]) == b"a polygon");
+            assert!(rt; fixed(lines[2]) == b"3 refused 26\n".as_slice());
+            assert!(rt; fixed(lines[3]) == b"a polygon".as_slice());
             Ok(())
         }
         Listing::Faulty(_) => Err(Fail::new("refused")),
@@ -33,10 +33,10 @@ fn a_diagonal_step_has_no_axis_code(rt: HostRuntime) -> Result<(), Fail> {
 
 #[test]
 fn refused_records_have_one_line(rt: HostRuntime) {
-    assert!(rt; refusal(&[]) == b"record refused 6\n");
-    assert!(rt; refusal(&[7, 0, 3, 0, 5, 0, 5, 0, 0]) == b"record refused 7\n");
-    assert!(rt; refusal(&[7, 0, 4, 0, 0, 4, 5, 0, 0]) == b"record refused 8\n");
-    assert!(rt; refusal(&[7, 0, 4, 0, 5, 0, 5, 0, 1]) == b"record refused 9\n");
-    assert!(rt; refusal(&[8, 0, 4, 0, 5, 0, 5, 0, 0, 0]) == b"record refused 10\n");
-    assert!(rt; header() == b"kind bits vertices top bottom\n");
+    assert!(rt; refusal(&[]) == b"record refused 6\n".as_slice());
+    assert!(rt; refusal(&[7, 0, 3, 0, 5, 0, 5, 0, 0]) == b"record refused 7\n".as_slice());
+    assert!(rt; refusal(&[7, 0, 4, 0, 0, 4, 5, 0, 0]) == b"record refused 8\n".as_slice());
+    assert!(rt; refusal(&[7, 0, 4, 0, 5, 0, 5, 0, 1]) == b"record refused 9\n".as_slice());
+    assert!(rt; refusal(&[8, 0, 4, 0, 5, 0, 5, 0, 0, 0]) == b"record refused 10\n".as_slice());
+    assert!(rt; header() == b"kind bits vertices top bottom\n".as_slice());
 }

@@ -2,7 +2,7 @@
 use Rattle.std.proofs.Common.{◌≡◌, ℕ, zero, suc, ◌+◌, ◌-◌, ◌<◌, ◌≤◌, false, ◌&&◌, ltb, ◌⊎◌, List, [], ◌∷◌, length, get_or, Some, None, Option, sym, refl, ap, ◌∙◌, subst, inl, inr, ⊎_elim, arith}
 use Rattle.std.proofs.lemmas.Bool.{cases_Bool, cases_lt, ltb-true, and_parts, cond_both, cond-true, cond-false}
 use Rattle.measure.specs.declared.fraction.Fraction.{Fraction}
-use Rattle.measure.specs.Deviation.{widest, deviation}
+use Rattle.measure.specs.Deviation.{widest}
 use Rattle.measure.specs.Fractions.{zero as nought, above, wider, widened}
 use Rattle.measure.specs.Widest.{Widest, DeviationIsWidest, PolygonIsWidest}
 use Rattle.measure.proofs.Order.{not_above_through}

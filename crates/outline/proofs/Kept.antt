@@ -1,7 +1,7 @@
 -- The rules of an outline's points stay when a moved point is added and when the last is dropped.
-use Rattle.std.proofs.Common.{◌≡◌, ℕ, suc, ◌+◌, ◌-◌, ◌<◌, ◌≤◌, Bool, true, false, cond, ltb, List, [], ◌∷◌, ◌++◌, length, get_or, take, ℤ, pos, negsuc, ◌+ℤ◌, Some, None, Option, sym, refl, ap, ◌∙◌, subst, subst₂, inl, inr, ⊎_elim, arith, length-take}
+use Rattle.std.proofs.Common.{◌≡◌, ℕ, suc, ◌+◌, ◌-◌, ◌<◌, ◌≤◌, ltb, List, [], ◌∷◌, ◌++◌, length, get_or, take, ℤ, pos, negsuc, ◌+ℤ◌, Some, None, Option, sym, ap, ◌∙◌, subst, subst₂, ⊎_elim, arith, length-take}
 use Rattle.std.proofs.lemmas.List.{get_or-take, get_or_append_left, get_or_push, length_push}
-use Rattle.std.proofs.lemmas.Bool.{cases_Bool, ltb-true, cases_lt, cases_eq}
+use Rattle.std.proofs.lemmas.Bool.{cases_Bool, ltb-true, cases_lt}
 use Rattle.outline.specs.declared.outline.Outline.{Outline}
 use Rattle.outline.specs.declared.point.Point.{Point}
 use Rattle.outline.specs.Held.{origin, Framed, Follows, Traced}

@@ -1,5 +1,5 @@
 -- The padding after the codes, and what the body of a record is read as.
-use Rattle.std.proofs.Common.{◌≡◌, ℕ, suc, ◌+◌, ◌-◌, ◌^◌, ◌<◌, ◌≤◌, Bool, true, false, List, [], ◌∷◌, ◌++◌, length, get_or, take, drop, replicate, Ok, Err, Result, unwrap_or, sym, refl, ap, ◌∙◌, subst, add-one, arith, length-take, MatchResult}
+use Rattle.std.proofs.Common.{◌≡◌, ℕ, ◌+◌, ◌-◌, ◌<◌, ◌≤◌, Bool, true, false, List, ◌++◌, length, get_or, take, drop, replicate, Ok, Err, Result, unwrap_or, sym, refl, ap, ◌∙◌, subst, arith, length-take, MatchResult}
 use borrow.Rule.Slice.PartMut.{post_of}
 use lib.ListN.{length-replicate}
 use Rattle.std.proofs.lemmas.List.{get_or-replicate, get_or-take, same_lists, get_or_default}

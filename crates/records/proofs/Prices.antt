@@ -10,7 +10,6 @@ use Rattle.coding.specs.Tables.{Table, Codes, price_of}
 use Rattle.weighing.specs.Edges.{edge_price}
 use Rattle.records.specs.Bytes.{cols, rows, joined_codes, codes_from, codes_of}
 use Rattle.records.specs.Laws.{EdgeBitsAreCodes}
-use Rattle.records.specs.Writing.{vertices}
 use Rattle.records.proofs.Polygons.{polygon_below}
 use Rattle.records.proofs.Spelling.{codes_parts}
 

@@ -1,5 +1,5 @@
 -- What writing the record of a polygon answers and leaves in the buffer.
-use Rattle.std.specs.Prelude.{◌≡◌, ℕ, ◌+◌, ◌<◌, cond, List, [], ◌∷◌, ◌++◌, map, length, take, drop, IfOk, Some, None, Ok, Err, Option, Result, nat_le, slice_index_or}
+use Rattle.std.specs.Prelude.{◌≡◌, ℕ, ◌+◌, cond, List, [], ◌∷◌, ◌++◌, map, length, take, drop, IfOk, Some, None, Ok, Err, Option, Result, nat_le, slice_index_or}
 use Rattle.std.specs.Option.{option_map}
 use Rattle.outline.specs.declared.point.Point.{Point}
 use Rattle.outline.specs.declared.refusal.Refusal.{Refusal}

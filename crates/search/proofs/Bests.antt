@@ -1,5 +1,5 @@
 -- What the table of an outline's points says of its usable polygons.
-use Rattle.std.proofs.Common.{◌≡◌, ℕ, suc, ◌-◌, ◌<◌, ◌≤◌, Bool, true, false, cond, List, ◌++◌, length, take, drop, Some, None, Option, sym, refl, ap, ◌∙◌, subst, subst₂, arith}
+use Rattle.std.proofs.Common.{◌≡◌, ℕ, ◌-◌, ◌<◌, ◌≤◌, Bool, true, false, cond, List, length, take, drop, Some, None, Option, sym, refl, ap, ◌∙◌, subst, subst₂, arith}
 use Rattle.cost.specs.Cost.{CostOf, Laws}
 use Rattle.graph.proofs.Chains.{read_back_rising}
 use Rattle.graph.proofs.Least.{least_stands}
@@ -13,7 +13,7 @@ use Rattle.std.proofs.iter.runs.Lists.{none-some, same_Some}
 use Rattle.std.proofs.lemmas.List.{length-take-le, take_at}
 use Rattle.std.proofs.lemmas.Bool.{cond-true}
 use Rattle.std.specs.List.{slice_get}
-use Rattle.weighing.specs.Weights.{Usable, polygon_cost}
+use Rattle.weighing.specs.Weights.{polygon_cost}
 use Rattle.search.proofs.Polygons.{rising_short}
 use Rattle.search.proofs.Prices.{usable_path, path_usable}
 use Rattle.search.specs.Best.{NoneUsable, Best, LeastCost}

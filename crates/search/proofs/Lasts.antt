@@ -1,16 +1,14 @@
 -- From the rows and the list that are read to what the rules say of them.
-use Rattle.std.proofs.Common.{◌≡◌, ℕ, ◌-◌, ◌<◌, ◌≤◌, Bool, true, false, cond, ltb, List, ◌++◌, length, get_or, drop, Some, None, Ok, Err, Option, Result, sym, refl, ap, ◌∙◌, subst, arith}
+use Rattle.std.proofs.Common.{◌≡◌, ℕ, ◌-◌, ◌<◌, ◌≤◌, Bool, true, false, cond, ltb, List, ◌++◌, length, get_or, drop, Some, None, Ok, Err, sym, refl, ap, ◌∙◌, subst, arith}
 use Rattle.graph.proofs.Chains.{read_back_reached, read_back_inside}
 use Rattle.graph.proofs.Options.{nth_is, same_value}
 use Rattle.graph.specs.Paths.{ReadBack, Listed}
 use Rattle.graph.specs.declared.Row.{Row}
-use Rattle.outline.specs.declared.refusal.Refusal.{Refusal}
 use Rattle.outline.specs.declared.refusal.Refusal.TheVariants.{ListShort, RowsShort}
 use Rattle.std.proofs.lemmas.Bool.{ltb-false, cond-false}
 use Rattle.std.specs.List.{slice_get}
 use Rattle.search.proofs.Bests.{reached_made}
 use Rattle.search.specs.Rules.{room, reached_cost, last_cost, ReadOut}
-use Rattle.search.specs.declared.Found.{Found}
 
 pub room_fits : (n rows list : ℕ) (u : Unit {0}) → Ok u ≡ room n rows list → (n ≤ rows) × (n ≤ list)
 room_fits n rows list u e = go (ltb rows n) refl (ltb list n) refl e

@@ -1,24 +1,19 @@
 -- Cheapest and finest are least with the weigher that they make.
-use Rattle.std.proofs.Common.{◌≡◌, ℕ, ◌≤◌, List, length, take, Some, Ok, Err, Option, Result, sym, refl, ap, ◌∙◌, subst, subst₂}
+use Rattle.std.proofs.Common.{◌≡◌, ℕ, ◌≤◌, List, length, take, Some, Ok, Err, Option, Result, sym, ap, ◌∙◌, subst, subst₂}
 use Rattle.coding.specs.Tables.{Table}
-use Rattle.cost.specs.Bits.{of_count}
-use Rattle.cost.specs.TwoPart.{both}
 use Rattle.cost.specs.declared.bits.Bits.{Bits}
 use Rattle.cost.specs.declared.two_part.TwoPart.{TwoPart}
 use Rattle.graph.specs.declared.Row.{Row}
-use Rattle.measure.specs.Deviation.{edge_deviation, polygon_deviation}
 use Rattle.measure.specs.Measures.{Strays}
 use Rattle.measure.specs.declared.fraction.Fraction.{Fraction}
 use Rattle.outline.specs.declared.point.Point.{Point}
 use Rattle.outline.specs.declared.refusal.Refusal.{Refusal}
-use Rattle.search.specs.Best.{Best, BestAnswered}
+use Rattle.search.specs.Best.{BestAnswered}
 use Rattle.search.specs.Cheapest.{priced_cost, cheapest_found, finest_found, CheapestRule, CheapestBest, OwnNumbers, OwnDeviation}
 use Rattle.search.specs.Rules.{Answered}
-use Rattle.search.specs.declared.Found.{Found}
 use Rattle.search.specs.declared.by_price.PricedPolygon.{PricedPolygon}
 use Rattle.search.specs.declared.by_straying.StrayingPolygon.{StrayingPolygon}
-use Rattle.weighing.specs.Deviations.{deviation_cost, of_value}
-use Rattle.weighing.specs.Edges.{edge_price, polygon_bits}
+use Rattle.weighing.specs.Deviations.{deviation_cost}
 use Rattle.weighing.specs.Weighers.{priced_weight, straying_weight}
 use Rattle.weighing.specs.declared.deviation.Deviation.{Deviation}
 use Rattle.weighing.proofs.Costs.{priced_polygon, straying_polygon}

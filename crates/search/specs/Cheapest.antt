@@ -21,7 +21,7 @@ use Rattle.search.specs.declared.by_price.PricedPolygon.{PricedPolygon}
 use Rattle.search.specs.declared.by_straying.StrayingPolygon.{StrayingPolygon}
 use Rattle.weighing.specs.Deviations.{deviation_cost, of_value}
 use Rattle.weighing.specs.Edges.{edge_price, polygon_bits}
-use Rattle.weighing.specs.Weighers.{priced_weight, straying_weight}
+use Rattle.weighing.specs.Weighers.{priced_weight}
 use Rattle.weighing.specs.declared.deviation.Deviation.{Deviation}
 
 -- Bits, then deviation.

@@ -1,5 +1,5 @@
 -- Which polygons are usable: a polygon is usable by prices where all its edges have one.
-use Rattle.std.proofs.Common.{◌≡◌, ℕ, true, false, ◌&&◌, ltb, List, [], ◌∷◌, length, is_some, Some, None, fold, Option, sym, refl, ◌∙◌}
+use Rattle.std.proofs.Common.{◌≡◌, ℕ, true, false, List, [], ◌∷◌, is_some, Some, None, fold, Option, sym, refl, ◌∙◌}
 use Rattle.std.proofs.ByRecursion.{All-weaker}
 use Rattle.std.proofs.lemmas.Bool.{and_from, and_parts, both_ways, not_from_false, not-true}
 use Rattle.std.specs.List.{AllByRecursion as All}

@@ -1,5 +1,5 @@
 -- The laws of deviations.
-use Rattle.std.specs.Prelude.{◌≡◌, true, false}
+use Rattle.std.specs.Prelude.{◌≡◌, false}
 use Rattle.std.proofs.lemmas.Bool.{cond_both}
 use Rattle.cost.specs.Cost.{Laws}
 use Rattle.measure.specs.declared.fraction.Fraction.{Fraction}

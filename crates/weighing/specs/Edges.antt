@@ -1,5 +1,5 @@
 -- The displacement and the price of an edge, and the bits of a polygon.
-use Rattle.std.specs.Prelude.{ℕ, ◌+◌, cond, ◌&&◌, List, length, ℤ, None, sum_by, Option, nat_lt, slice_index_or}
+use Rattle.std.specs.Prelude.{ℕ, cond, ◌&&◌, List, length, ℤ, None, sum_by, Option, nat_lt, slice_index_or}
 use Rattle.std.specs.Option.{unwrap_or}
 use Rattle.outline.specs.declared.point.Point.{Point}
 use Rattle.outline.specs.Held.{origin}

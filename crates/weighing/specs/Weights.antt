@@ -1,5 +1,5 @@
 -- The weights of edges, usable polygons and their cost.
-use Rattle.std.specs.Prelude.{◌≡◌, ℕ, Bool, true, false, ◌&&◌, List, length, is_some, Some, None, fold, Option, nat_lt}
+use Rattle.std.specs.Prelude.{◌≡◌, ℕ, true, false, ◌&&◌, List, length, is_some, Some, None, fold, Option, nat_lt}
 use Rattle.std.specs.List.{AllByRecursion as All}
 use Rattle.outline.specs.declared.point.Point.{Point}
 use Rattle.outline.specs.Polygon.{Polygon, edges}

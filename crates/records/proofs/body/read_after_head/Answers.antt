@@ -1,4 +1,4 @@
-use Rattle.std.proofs.Common.{◌+◌, length, Err, sym, ap, ◌∙◌, subst, rules}
+use Rattle.std.proofs.Common.{◌+◌, length, Err, sym, ap, ◌∙◌, subst}
 use Rattle.std.proofs.lemmas.Result.{err_from_is_err_and}
 use Rattle.records.specs.Steps.{RecordRead}
 use Rattle.records.proofs.Bodies.{body_whole, body_refused}

@@ -1,4 +1,4 @@
-use Rattle.std.proofs.Common.{ℕ, ◌^◌, ◌<◌, decimal, sym, subst}
+use Rattle.std.proofs.Common.{◌^◌, ◌<◌, decimal, sym, subst}
 use Rattle.scripts.specs.Numbers.{Reads, spaced, four_text}
 use Rattle.scripts.proofs.Splits.{follows16}
 use Rattle.scripts.proofs.numbers.four_numbers.Goals as goal

@@ -1,4 +1,4 @@
-use Rattle.std.proofs.Common.{Ok, Err, sym, ap, ◌∙◌}
+use Rattle.std.proofs.Common.{Ok, ap}
 use Rattle.outline.specs.Plain.{plain}
 use Rattle.search.proofs.Named.{finest_rule, finest_best}
 use Rattle.search.proofs.by_straying.finest.Goals as goal

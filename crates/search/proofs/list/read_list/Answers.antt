@@ -1,4 +1,4 @@
-use Rattle.std.proofs.Common.{◌≡◌, length, sym, subst, arith}
+use Rattle.std.proofs.Common.{length, sym, subst, arith}
 use Rattle.graph.proofs.Chains.{read_back_inside}
 use Rattle.outline.proofs.Kept.{rules_of}
 use Rattle.outline.specs.Plain.{plain}

@@ -1,4 +1,4 @@
-use Rattle.std.proofs.Common.{◌≡◌, ◌-◌, ◌<◌, ◌≤◌, length, sym, subst, arith}
+use Rattle.std.proofs.Common.{◌-◌, ◌<◌, ◌≤◌, length, sym, subst, arith}
 use Rattle.outline.proofs.Kept.{rules_of}
 use Rattle.outline.specs.Plain.{plain}
 use Rattle.search.proofs.Bests.{least_cost, none_usable}

@@ -1,4 +1,4 @@
-use Rattle.std.proofs.Common.{length, take, drop, sym, ap, ◌∙◌, subst, arith}
+use Rattle.std.proofs.Common.{take, sym, ap, ◌∙◌, subst, arith}
 use Rattle.outline.specs.Rules.{Rules}
 use Rattle.records.specs.Reading.{Accepted}
 use Rattle.tracing.specs.Tracing.{chain_only, in_largest}
