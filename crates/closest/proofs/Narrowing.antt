@@ -12,7 +12,7 @@ use Rattle.outline.specs.Polygon.{edges}
 use Rattle.outline.specs.declared.point.Point.{Point}
 use Rattle.std.proofs.lemmas.Bool.{and_from, and_parts, and_left, and_right, both_ways, cases_Bool, cases_lt, cond-false, cond-true, ltb-true}
 use Rattle.std.specs.Option.{option_and}
-use Rattle.std.specs.List.{AllByRecursion as All}
+use Rattle.std.specs.List.{AllByRecursion}
 use Rattle.weighing.proofs.Costs.{polygon_length}
 use Rattle.weighing.proofs.EdgeWeights.{deviation_has, price_edge}
 use Rattle.weighing.specs.Edges.{edge_price}
@@ -95,7 +95,7 @@ past_on None t d p h = refl
 past_on (Some l) t d p h = above_through d t l h p
 
 -- what holds of all edges of a list holds of the edge at a place
-edge_at : (P : ℕ × ℕ → Type 0) (vs : List ℕ) → All P (edges vs) → (k : ℕ) → suc k < length vs → P (get_or vs k 0, get_or vs (suc k) 0)
+edge_at : (P : ℕ × ℕ → Type 0) (vs : List ℕ) → AllByRecursion P (edges vs) → (k : ℕ) → suc k < length vs → P (get_or vs k 0, get_or vs (suc k) 0)
 edge_at P [] a k l = absurd (omega arith)
 edge_at P (v ∷ []) a k l = absurd (omega arith)
 edge_at P (v ∷ u ∷ vs) a zero l = a.0

@@ -12,7 +12,7 @@ use Rattle.outline.specs.declared.point.Point.{Point}
 use Rattle.outline.specs.declared.refusal.Refusal.TheVariants.{OverBudget}
 use Rattle.search.specs.Cheapest.{CheapestRule}
 use Rattle.std.proofs.lemmas.Bool.{and_from, and_parts, both_ways, eqb-true, le-leb}
-use Rattle.std.specs.List.{AllByRecursion as All}
+use Rattle.std.specs.List.{AllByRecursion}
 use Rattle.weighing.specs.Edges.{edge_price, polygon_bits}
 use Rattle.examples.proofs.Polygons.{every, every_polygon}
 use Rattle.examples.specs.Answers.{Numbers, Always}
@@ -21,7 +21,7 @@ abbrev all_pass : {X : Type 0} → (X → Bool) → List X → Bool
 all_pass p [] = true
 all_pass p (x ∷ xs) = p x && all_pass p xs
 
-all_passed : {X : Type 0} (p : X → Bool) (xs : List X) → All (λ x. p x ≡ true) xs → all_pass p xs ≡ true
+all_passed : {X : Type 0} (p : X → Bool) (xs : List X) → AllByRecursion (λ x. p x ≡ true) xs → all_pass p xs ≡ true
 all_passed p [] a = refl
 all_passed p (x ∷ xs) a = and_from (p x) (all_pass p xs) a.0 (all_passed p xs a.1)
 

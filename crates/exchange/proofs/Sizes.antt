@@ -3,7 +3,7 @@ use Rattle.std.proofs.Common.{◌≡◌, ℕ, ◌+◌, ◌*◌, ◌/◌, ◌≤�
 use lib.ListN.{length-map}
 use Rattle.std.proofs.lemmas.Bool.{both_ways, cases_Bool, cond-false, cond-true}
 use Rattle.std.specs.Option.{option_map}
-use Rattle.std.specs.List.{AllByRecursion as All}
+use Rattle.std.specs.List.{AllByRecursion}
 use Rattle.coding.specs.Axes.{axis_is}
 use Rattle.coding.specs.Chains.{chain_length}
 use Rattle.coding.specs.Flats.{flat_is}
@@ -69,7 +69,7 @@ edge_code t ps i j has =
     (λ no. absurd (both_ways false refl (sym (ap is_some (cond-false test (price_of code) None no)) ∙ has)))
     (cases_Bool test)
 
-codes_along : (t : Table) (ps : List Point) (i : ℕ) (rest : List ℕ) → All (λ e. is_some (edge_price t ps e.0 e.1) ≡ true) (edges (i ∷ rest))
+codes_along : (t : Table) (ps : List Point) (i : ℕ) (rest : List ℕ) → AllByRecursion (λ e. is_some (edge_price t ps e.0 e.1) ≡ true) (edges (i ∷ rest))
     → (codes : List Bool) × (codes_from t (get_or ps i origin) (vertices ps rest) ≡ Some codes)
 codes_along t ps i [] all = ([], refl)
 codes_along t ps i (j ∷ rest) all =

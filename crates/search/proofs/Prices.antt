@@ -6,14 +6,14 @@ use Rattle.graph.specs.Rows.{through}
 use Rattle.outline.specs.Polygon.{Polygon, edges}
 use Rattle.std.proofs.iter.runs.Lists.{none-some, same_Some}
 use Rattle.std.proofs.lemmas.Bool.{both_ways}
-use Rattle.std.specs.List.{AllByRecursion as All}
+use Rattle.std.specs.List.{AllByRecursion}
 use Rattle.weighing.specs.Weights.{Usable, joined, polygon_cost}
 use Rattle.search.proofs.Polygons.{rising_polygon, polygon_rising}
 
 module _ {C W : Type 0} (k : CostOf C W) (weight : ℕ → ℕ → Option W) where
   -- every edge has a weight
   abbrev Weighed : List ℕ → Type 0
-  Weighed vs = All (λ e. is_some (weight e.0 e.1) ≡ true) (edges vs)
+  Weighed vs = AllByRecursion (λ e. is_some (weight e.0 e.1) ≡ true) (edges vs)
 
   -- a cost joined with the weights of the edges
   abbrev joined_on : C → List ℕ → C

@@ -1,7 +1,7 @@
 -- The cost of a usable polygon is its bits and its deviation.
 use Rattle.std.proofs.Common.{◌≡◌, ℕ, zero, suc, ◌+◌, ◌-◌, ◌*◌, ◌<◌, ◌≤◌, min, true, false, List, [], ◌∷◌, length, get_or, is_some, Some, None, fold, Option, unwrap_or, sym, refl, ap, ◌∙◌, arith}
 use Rattle.std.proofs.lemmas.Bool.{both_ways}
-use Rattle.std.specs.List.{AllByRecursion as All}
+use Rattle.std.specs.List.{AllByRecursion}
 use Rattle.outline.specs.declared.point.Point.{Point}
 use Rattle.outline.specs.Polygon.{Polygon, edges}
 use Rattle.cost.specs.Bits.{bits_cost, of_count}
@@ -54,7 +54,7 @@ one_edge c a (Some v) n d reads has room =
 one_edge c a None n d reads has room = absurd (both_ways false refl has)
 
 module _ (weight : ℕ → ℕ → Option (Price × Fraction)) (price : ℕ → ℕ → Option ℕ) (dev : ℕ → ℕ → Option Fraction) (reads : (i j : ℕ) (v : Price × Fraction) → weight i j ≡ Some v → (price i j ≡ Some v.0.bits) × (dev i j ≡ Some v.1)) where
-  along : (c : ℕ) (a : Fraction) (es : List (ℕ × ℕ)) → All (λ e. is_some (weight e.0 e.1) ≡ true) es → c + 32 * length es ≤ 65535
+  along : (c : ℕ) (a : Fraction) (es : List (ℕ × ℕ)) → AllByRecursion (λ e. is_some (weight e.0 e.1) ≡ true) es → c + 32 * length es ≤ 65535
       → fold (λ s e. joined priced_cost s (weight e.0 e.1)) (at c a) es ≡ at (fold (λ m e. m + unwrap_or (price e.0 e.1) 0) c es) (fold (λ old e. widened old (dev e.0 e.1)) a es)
   along c a [] has room = refl
   along c a (e ∷ es) has room =
@@ -94,7 +94,7 @@ one_straying a (Some v) d reads has = ap (λ (o : Option Fraction). of_value (wi
 one_straying a None d reads has = absurd (both_ways false refl has)
 
 module _ (weight dev : ℕ → ℕ → Option Fraction) (reads : (i j : ℕ) (v : Fraction) → weight i j ≡ Some v → dev i j ≡ Some v) where
-  straying_along : (a : Fraction) (es : List (ℕ × ℕ)) → All (λ e. is_some (weight e.0 e.1) ≡ true) es
+  straying_along : (a : Fraction) (es : List (ℕ × ℕ)) → AllByRecursion (λ e. is_some (weight e.0 e.1) ≡ true) es
       → fold (λ s e. joined deviation_cost s (weight e.0 e.1)) (of_value a) es ≡ of_value (fold (λ old e. widened old (dev e.0 e.1)) a es)
   straying_along a [] has = refl
   straying_along a (e ∷ es) has =

@@ -2,7 +2,7 @@
 use Rattle.std.proofs.Common.{◌≡◌, ℕ, true, false, List, [], ◌∷◌, is_some, Some, None, fold, Option, sym, refl, ◌∙◌}
 use Rattle.std.proofs.ByRecursion.{All-weaker}
 use Rattle.std.proofs.lemmas.Bool.{and_from, and_parts, both_ways, not_from_false, not-true}
-use Rattle.std.specs.List.{AllByRecursion as All}
+use Rattle.std.specs.List.{AllByRecursion}
 use Rattle.outline.specs.declared.point.Point.{Point}
 use Rattle.outline.specs.Polygon.{edges}
 use Rattle.coding.specs.Tables.{Table, Codes}
@@ -18,7 +18,7 @@ use Rattle.weighing.specs.Weights.{Usable}
 use Rattle.weighing.specs.DeviationLaws.{wider_least}
 use Rattle.weighing.proofs.EdgeWeights.{deviation_has, price_edge, priced_has, straying_has}
 
-all_both : {X : Type 0} (P Q : X → Type 0) (xs : List X) → All P xs → All Q xs → All (λ x. P x × Q x) xs
+all_both : {X : Type 0} (P Q : X → Type 0) (xs : List X) → AllByRecursion P xs → AllByRecursion Q xs → AllByRecursion (λ x. P x × Q x) xs
 all_both P Q [] p q = tt
 all_both P Q (x ∷ xs) p q = ((p.0, q.0), all_both P Q xs p.1 q.1)
 
@@ -41,13 +41,13 @@ module _ (t : Fraction) (dev : ℕ → ℕ → Option Fraction) where
       let b = widened a (dev e.0 e.1) in
       not_above_through a b (spread b es) (widened_grows a (dev e.0 e.1)) (spread_grows b es)
 
-  spread_within : (a : Fraction) (es : List (ℕ × ℕ)) → above a t ≡ false → All (λ e. within t (dev e.0 e.1) ≡ true) es → above (spread a es) t ≡ false
+  spread_within : (a : Fraction) (es : List (ℕ × ℕ)) → above a t ≡ false → AllByRecursion (λ e. within t (dev e.0 e.1) ≡ true) es → above (spread a es) t ≡ false
   spread_within a [] low h = low
   spread_within a (e ∷ es) low h =
       let o = dev e.0 e.1 in
       spread_within (widened a o) es (widened_within t a o low h.0) h.1
 
-  within_spread : (a : Fraction) (es : List (ℕ × ℕ)) → above (spread a es) t ≡ false → All (λ e. is_some (dev e.0 e.1) ≡ true) es → All (λ e. within t (dev e.0 e.1) ≡ true) es
+  within_spread : (a : Fraction) (es : List (ℕ × ℕ)) → above (spread a es) t ≡ false → AllByRecursion (λ e. is_some (dev e.0 e.1) ≡ true) es → AllByRecursion (λ e. within t (dev e.0 e.1) ≡ true) es
   within_spread a [] low has = tt
   within_spread a (e ∷ es) low has =
       let o = dev e.0 e.1 in

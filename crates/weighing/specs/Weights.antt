@@ -1,6 +1,6 @@
 -- The weights of edges, usable polygons and their cost.
 use Rattle.std.specs.Prelude.{◌≡◌, ℕ, true, false, ◌&&◌, List, length, is_some, Some, None, fold, Option, nat_lt}
-use Rattle.std.specs.List.{AllByRecursion as All}
+use Rattle.std.specs.List.{AllByRecursion}
 use Rattle.outline.specs.declared.point.Point.{Point}
 use Rattle.outline.specs.Polygon.{Polygon, edges}
 use Rattle.cost.specs.Cost.{CostOf}
@@ -15,7 +15,7 @@ EdgesOnly weight = (ps : List Point) (i j : ℕ) → (nat_lt i j && nat_lt j (le
 
 -- A polygon of n points is usable when all its edges have weights.
 abbrev pub Usable : {W : Type 0} → (ℕ → ℕ → Option W) → ℕ → List ℕ → Type 0
-Usable weight n vs = Polygon n vs × All (λ e. is_some (weight e.0 e.1) ≡ true) (edges vs)
+Usable weight n vs = Polygon n vs × AllByRecursion (λ e. is_some (weight e.0 e.1) ≡ true) (edges vs)
 
 -- A cost joined with a weight, where there is one.
 abbrev pub joined : {C W : Type 0} → CostOf C W → C → Option W → C
