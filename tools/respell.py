@@ -73,7 +73,7 @@ def own_names(paths):
                     own.add(found.group(1))
                     declared.add(found.group(1))
             own.update(re.findall(r"\blet ([^\s:=(){},]+)", text))
-            own.update(re.findall(r"\brecord ([A-Z][^\s:(){};]*)", text))
+            own.update(re.findall(r"\b(?:record|data) ([A-Z][^\s:(){};]*)", text))
             for binders in re.findall(r"[({]([^(){}:;=,→]+) : ", text):
                 own.update(binders.split())
             for binder in re.findall(r"λ ([^.]+)\.", text):

@@ -3,8 +3,8 @@ use Rattle.std.proofs.Common.{◌≡◌, ◌≤◌, List, [], length, subst, ari
 use Rattle.measure.specs.Fractions.{fraction}
 use Rattle.outline.specs.Runs.{after}
 use Rattle.replay.proofs.Shown.{best_shown, finest_shown, cheapest_shown, closest_shown}
-use Rattle.replay.specs.Ample.{Ample, BestSaid, Best-run}
-use Rattle.replay.specs.Ample.Best-run.{done as best_done, step as best_step}
+use Rattle.replay.specs.Ample.{Ample, BestSaid, BestRun}
+use Rattle.replay.specs.Ample.BestRun.{done as best_done, step as best_step}
 use Rattle.replay.specs.Right.{Tools, State, Right}
 use Rattle.replay.specs.Runs.{front, SameLengths, Run}
 use Rattle.replay.specs.Runs.Run.{done, step}
@@ -45,8 +45,8 @@ module _ {C W : Type 0} (t : Tools C W) where
   still : (s u : State C) → Ample s → SameLengths s u → Ample u
   still s u m k = record { rows = omega arith; priced = omega arith; straying = omega arith; list = omega arith }
 
-  pub best_run : {s v : State C} {cs : List Call} {es : List (Entry C)} → Ample s → Run t s cs es v → Best-run t s.outline cs es
+  pub best_run : {s v : State C} {cs : List Call} {es : List (Entry C)} → Ample s → Run t s cs es v → BestRun t s.outline cs es
   best_run m (done o) = best_done
   best_run m (step {s} {u} {v} {c} {a} {cs} {es} o n k r) =
       let m' = still s u m k in
-      best_step (said s u c a m m'.list o.count.1 n) (subst (λ p. Best-run t p cs es) (left s u c a n) (best_run m' r))
+      best_step (said s u c a m m'.list o.count.1 n) (subst (λ p. BestRun t p cs es) (left s u c a n) (best_run m' r))

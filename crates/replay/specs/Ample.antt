@@ -44,6 +44,6 @@ BestSaid t p (Closest budget) a list =
     (r : Result PricedPolygon Refusal) × (a ≡ closest_said r) × ClosestBest t.codes t.strays budget p.points list r
 
 -- A best run: each call finds the plain outline after the calls before it, and its entry has a best answer and its polygon.
-pub data Best-run {C W : Type 0} (t : Tools C W) : Plain → List Call → List (Entry C) → Type 0 where
-  done : {p : Plain} → Best-run t p [] []
-  step : {p : Plain} {c : Call} {e : Entry C} {cs : List Call} {es : List (Entry C)} → BestSaid t p c e.answer e.list → Best-run t (after p (traced_call c [])) cs es → Best-run t p (c ∷ cs) (e ∷ es)
+pub data BestRun {C W : Type 0} (t : Tools C W) : Plain → List Call → List (Entry C) → Type 0 where
+  done : {p : Plain} → BestRun t p [] []
+  step : {p : Plain} {c : Call} {e : Entry C} {cs : List Call} {es : List (Entry C)} → BestSaid t p c e.answer e.list → BestRun t (after p (traced_call c [])) cs es → BestRun t p (c ∷ cs) (e ∷ es)

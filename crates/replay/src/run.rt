@@ -1,7 +1,7 @@
 ghost use Rattle.std.specs.Prelude.{◌≡◌, length, take, drop};
 ghost use Rattle.outline.specs.Plain.{plain};
 ghost use Rattle.outline.specs.Rules.{Rules};
-ghost use Rattle.replay.specs.Ample.{Ample, Best-run};
+ghost use Rattle.replay.specs.Ample.{Ample, BestRun};
 ghost use Rattle.replay.specs.Right.{state, tools};
 ghost use Rattle.replay.specs.Runs.{Run};
 ghost use Rattle.replay.specs.Traced.{AsTraced};
@@ -31,7 +31,7 @@ pub fn replay<'a, W: Weigher, C: Coder, M: Measure>(
     entries: &mut [Entry<W::Cost>],
 )
     ensures run { Run (tools W.Cost.Cost.cost (W.Weigher.weight weigher.now) (C.Coder.table coder.now) (M.Measure.strays measure.now)) (state outline.old rows.old priced.old straying.old list.old) (take (length entries.old) calls.now) (take (length calls.now) entries.new) (state outline.new rows.new priced.new straying.new list.new) }
-    ensures best { Ample (state outline.old rows.old priced.old straying.old list.old) → Best-run (tools W.Cost.Cost.cost (W.Weigher.weight weigher.now) (C.Coder.table coder.now) (M.Measure.strays measure.now)) (plain outline.old) (take (length entries.old) calls.now) (take (length calls.now) entries.new) }
+    ensures best { Ample (state outline.old rows.old priced.old straying.old list.old) → BestRun (tools W.Cost.Cost.cost (W.Weigher.weight weigher.now) (C.Coder.table coder.now) (M.Measure.strays measure.now)) (plain outline.old) (take (length entries.old) calls.now) (take (length calls.now) entries.new) }
     ensures further { drop (length calls.now) entries.new ≡ drop (length calls.now) entries.old }
     ensures traced { AsTraced (plain outline.old) (take (length entries.old) calls.now) (take (length calls.now) entries.new) (plain outline.new) }
     ensures rules { Rules (plain outline.new) }
