@@ -60,7 +60,8 @@ def calls(text):
             owner = name + "::"
             if of_trait:
                 of = words.split(" for ")[0].strip()
-                members = re.findall(r"^    ghost (\w+) = (\{.*)", "\n".join(lines[k:]).split("\n}")[0], re.M)
+                body = "" if line.endswith("{}") else "\n".join(lines[k:]).split("\n}")[0]
+                members = re.findall(r"^    ghost (\w+) = (\{.*)", body, re.M)
                 meant = [member for label, member in members if label not in proved.get(of, ())]
                 found.append((f"{of} for {name}", "\n".join(meant)))
                 shown = False
@@ -77,7 +78,7 @@ def contract_after(lines):
     contract = []
     for line in lines:
         if re.match(r"\s*ensures\b", line):
-            contract.append(line)
+            contract.append(line.partition("{")[2])
         if line.strip() == "{" or line.rstrip().endswith((";", "{")) and "λ" not in line.rstrip()[-3:]:
             break
     return "\n".join(contract)
@@ -93,9 +94,9 @@ def cited(contract, names):
 
 def crates():
     for line in (ROOT / "crates.txt").read_text().splitlines():
-        name = line.split("#")[0].split(":")[0].strip()
-        if name and not name.endswith("trials"):
-            yield ROOT / "crates" / name
+        names = line.split("#")[0].split(":")[0].split()
+        if names and not names[0].endswith("trials"):
+            yield ROOT / "crates" / names[0]
 
 
 def public_calls():

@@ -32,7 +32,7 @@ RT = os.environ.get("RT", "rt")
 def crate_names():
     """The crates in the order of crates.txt."""
     lines = (ROOT / "crates.txt").read_text().splitlines()
-    return [line.split(":")[0].strip() for line in lines if ":" in line]
+    return [line.split(":")[0].split()[0] for line in lines if ":" in line]
 
 
 def bugs_of(crate, with_must_fail):

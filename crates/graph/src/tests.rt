@@ -1,5 +1,5 @@
 // Four places whose weights are written out.
-ghost use Rattle.std.specs.Prelude.{◌+◌, ◌*◌, ◌&&◌, ltb, if◌then◌else◌, None, nat_lt, slice_index_or};
+ghost use Rattle.std.specs.Prelude.{◌+◌, ◌*◌, ◌&&◌, if◌then◌else◌, None, nat_lt, slice_index_or};
 
 use crate::{Graph, Row, fill, read_back};
 use cost::bits::Bits;
@@ -17,7 +17,7 @@ impl Graph for Four {
 
     ghost places = { λ g. 4 };
 
-    ghost edge = { λ g i j. (if ltb i 4 && nat_lt j 4 then slice_index_or g.weights (4 * i + j) None else None) };
+    ghost edge = { λ g i j. (if nat_lt i 4 && nat_lt j 4 then slice_index_or g.weights (4 * i + j) None else None) };
 
     ghost depth = { λ g j. j };
 

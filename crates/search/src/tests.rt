@@ -1,5 +1,5 @@
 // The longest edge, counted in points, of polygons that keep off a point.
-ghost use Rattle.std.specs.Prelude.{◌-◌, max, not, ◌&&◌, ltb, length, if◌then◌else◌, Some, None, ◌==◌, nat_le, nat_lt};
+ghost use Rattle.std.specs.Prelude.{◌-◌, max, not, ◌&&◌, length, if◌then◌else◌, Some, None, ◌==◌, nat_le, nat_lt};
 ghost use Rattle.std.proofs.Common.{rules};
 
 use crate::{Found, least};
@@ -51,7 +51,7 @@ impl Weigher for Spans {
 
     type Cost = Longest;
 
-    ghost weight = { λ s ps i j. (if ltb i j && nat_lt j (length ps) then (if nat_le (j - i) s.reach && not (j == s.off) then Some (j - i) else None) else None) };
+    ghost weight = { λ s ps i j. (if nat_lt i j && nat_lt j (length ps) then (if nat_le (j - i) s.reach && not (j == s.off) then Some (j - i) else None) else None) };
 
     fn weight(&self, outline: &Outline, i: usize, j: usize) -> Option<usize> {
         if i < j && j < outline.len() {
