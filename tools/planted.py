@@ -10,8 +10,8 @@ A bug is a file tools/planted/CRATE/LABEL.edit of three lines: the file, a text 
 to put in its place. For each bug the prover's answer is printed: refused, with its first error, or SURVIVED: the crate
 is still proved, so that no contract of it tells the bug from the code. The last line has the counts.
 
-Nothing outside target/planted changes: the crates are copied there, with what earlier checks kept of them, and each is
-checked as it stands before the first bug is planted in it. target/planted/log keeps all that the prover said.
+Nothing here changes: the crates are copied to a folder for temporary files, with what earlier checks kept of them, and each
+is checked as it stands before the first bug is planted in it. target/planted/log keeps all that the prover said.
 """
 import argparse
 import os
@@ -19,6 +19,7 @@ import queue
 import shutil
 import subprocess
 import sys
+import tempfile
 import threading
 import time
 from concurrent.futures import ThreadPoolExecutor
@@ -167,13 +168,15 @@ def main():
         return
     began = time.monotonic()
     trees, counts, lock = queue.Queue(), {}, threading.Lock()
-    for k in range(words.jobs):
-        make_tree(WORK / f"tree{k}")
-        trees.put(WORK / f"tree{k}")
-    with ThreadPoolExecutor(words.jobs) as pool:
+    # Outside the repository, whose gate takes a second crates.txt for a fault.
+    with tempfile.TemporaryDirectory(prefix="planted-") as copies, ThreadPoolExecutor(words.jobs) as pool:
+        for k in range(words.jobs):
+            tree = Path(copies) / f"tree{k}"
+            make_tree(tree)
+            trees.put(tree)
         tries = [pool.submit(try_crate, trees, crate, of_crate, counts, lock) for crate, of_crate in bugs.items()]
-    for one in tries:
-        one.result()
+        for one in tries:
+            one.result()
     told = ", ".join(f"{number} {word}" for word, number in sorted(counts.items(), key=lambda one: one[0] != "refused"))
     print(f"{sum(counts.values())} planted: {told} ({round(time.monotonic() - began)} s)")
     sys.exit(0 if set(counts) == {"refused"} else 1)
