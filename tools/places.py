@@ -64,7 +64,7 @@ def by_patterns():
     return found
 
 
-FUNCTION = re.compile(r"^\s*(?:pub(?:\(crate\))? )?(?:extern \"C\" )?fn (\w+)(?:<[^(]*>)?\(([^{]*?)\)(?: -> [^{]*?)?\n?((?:\s*(?:requires|ensures)[^\n]*\n)*)", re.M)
+FUNCTION = re.compile(r"^\s*(?:pub(?:\(crate\))? )?(?:extern \"C\" )?fn (\w+)(?:<[^(]*>)?\(([^{]*?)\)(?: -> [^\n{]*)?(?:\n((?:\s*(?:requires|ensures)[^\n]*\n)*))?", re.M)
 
 
 def functions():
@@ -101,7 +101,7 @@ def together():
         for i, first in enumerate(names):
             for second in names[i + 1:]:
                 pairs[first, second].append(where)
-        for clause in re.findall(r"requires \w*\s*\{ (.*) \}\n", hit.group(3)):
+        for clause in re.findall(r"requires \w*\s*\{ (.*) \}\n", hit.group(3) or ""):
             for part in re.split(r" × ", clause):
                 shape = re.sub(r"\b\w+\.(?:now|old|entry)\b", "_", part.strip("() "))
                 clauses[shape].append(where)

@@ -1,69 +1,70 @@
-use exchange::{Goal, MOST_BYTES, Order, decode, encode};
+use super::samples::{CORNER, ENDS, L, STEP};
+use closest::Goal;
+use exchange::{MOST_BYTES, Order, decode, encode};
 use measure::Chosen;
 use std::test::Fail;
 
-// From (5, 5) by directions 0, 0, 6, 6.
-const L: [u8; 11] = [9, 0, 4, 0, 5, 0, 5, 0, 4, 0x03, 0x60];
-
-// Its first and last points in kind 2.
-const ENDS: [u8; 10] = [8, 0, 2, 0, 5, 0, 5, 0, 1, 0xe8];
-
-// From (5, 5) by direction 7.
-const STEP: [u8; 10] = [8, 0, 4, 0, 5, 0, 5, 0, 1, 0xe0];
-
 const TWO: Goal = Goal::Tolerance { top: 2, bottom: 1 };
 
-// Whether encode, by line, answers the record of these bytes.
-fn gives(bytes: &[u8], kind: u16, goal: Goal, record: &[u8]) -> bool {
-    let mut buffer = [0; MOST_BYTES];
-    match encode(bytes, kind, Chosen::Line, goal, &mut buffer) {
-        Ok(written) => {
-            let length = written.bytes;
-            &buffer[0..length] == record
-        }
-        Err(_) => false,
+// The order of a kind and a goal, by line.
+fn by_line(kind: u16, goal: Goal) -> Order {
+    Order {
+        kind,
+        measure: Chosen::Line,
+        goal,
     }
 }
 
-// Whether encode, by line and with a buffer of some bytes, is refused by this text and leaves the buffer.
+// Whether encode answers the record of these bytes.
+fn gives(bytes: &[u8], order: Order, record: &[u8]) -> bool {
+    let mut buffer = [0; MOST_BYTES];
+    let answer = encode(bytes, order, &mut buffer);
+    answer.is_ok_and(|written| buffer.get(..written.bytes) == Some(record))
+}
+
+// Whether encode, with a buffer of some bytes, is refused by this text.
 fn refused(
     rt: &HostRuntime,
     bytes: &[u8],
-    kind: u16,
-    goal: Goal,
+    order: Order,
     room: &mut [u8],
     text: &str,
 ) -> Result<bool, Fail> {
-    match encode(bytes, kind, Chosen::Line, goal, room) {
-        Ok(_) => Ok(false),
-        Err(failure) => {
-            let told = format!(in rt.alloc(); "{failure}")?;
-            Ok(told.as_str() == text)
-        }
-    }
+    let Err(failure) = encode(bytes, order, room) else {
+        return Ok(false);
+    };
+    let told = format!(in rt.alloc(); "{failure}")?;
+    Ok(told.as_str() == text)
 }
 
 #[test]
 fn encodes_an_l(rt: HostRuntime) {
-    assert!(rt; gives(&L, 2, TWO, &ENDS));
-    assert!(rt; gives(&L, 2, Goal::Budget(11), &ENDS));
-    let corner = [9, 0, 2, 0, 5, 0, 5, 0, 2, 0x0b, 0x20];
-    assert!(rt; gives(&L, 2, Goal::Budget(12), &corner));
+    assert!(rt; gives(&L, by_line(2, TWO), &ENDS));
+    assert!(rt; gives(&L, by_line(2, Goal::Budget(11)), &ENDS));
+    assert!(rt; gives(&L, by_line(2, Goal::Budget(12)), &CORNER));
     let all = Goal::Tolerance { top: 0, bottom: 1 };
-    assert!(rt; gives(&L, 4, all, &L));
+    assert!(rt; gives(&L, by_line(4, all), &L));
 }
 
 #[test]
 fn refusals_come_in_order(rt: HostRuntime) -> Result<(), Fail> {
     let mut room = [7; 9];
     let no = Goal::Tolerance { top: 1, bottom: 0 };
-    assert!(rt; refused(&rt, &[], 6, no, &mut room, "refused 7")?);
-    assert!(rt; refused(&rt, &[], 3, no, &mut room, "refused 6 byte 0")?);
-    assert!(rt; refused(&rt, &ENDS, 3, no, &mut room, "refused 7 byte 2")?);
-    assert!(rt; refused(&rt, &STEP, 3, no, &mut room, "refused 4")?);
-    assert!(rt; refused(&rt, &STEP, 3, TWO, &mut room, "refused 26")?);
-    assert!(rt; refused(&rt, &L, 2, Goal::Budget(5), &mut room, "refused 27")?);
-    assert!(rt; refused(&rt, &L, 2, TWO, &mut room, "refused 25")?);
+    assert!(rt; refused(&rt, &[], by_line(6, no), &mut room, "refused 7")?);
+    assert!(rt; refused(&rt, &[], by_line(3, no), &mut room, "refused 6 byte 0")?);
+    assert!(rt; refused(&rt, &ENDS, by_line(3, no), &mut room, "refused 7 byte 2")?);
+    assert!(rt; refused(&rt, &STEP, by_line(3, no), &mut room, "refused 4")?);
+    assert!(rt; refused(&rt, &STEP, by_line(3, TWO), &mut room, "refused 26")?);
+    assert!(rt;
+        refused(
+            &rt,
+            &L,
+            by_line(2, Goal::Budget(5)),
+            &mut room,
+            "refused 27"
+        )?
+    );
+    assert!(rt; refused(&rt, &L, by_line(2, TWO), &mut room, "refused 25")?);
     assert!(rt; room == [7; 9]);
     Ok(())
 }
@@ -93,23 +94,17 @@ fn decodes_any_kind(rt: HostRuntime) -> Result<(), Fail> {
     Ok(())
 }
 
-// The kind and the budget of an order, or 0 and 0.
-fn budget(order: Option<Order>) -> (u16, u16) {
-    match order {
-        Some(order) => match order.goal {
-            Goal::Budget(bits) => (order.kind, bits),
-            Goal::Tolerance { .. } => (0, 0),
-        },
-        None => (0, 0),
-    }
+// The kind and the goal of an order.
+fn asked(order: Order) -> (u16, Goal) {
+    (order.kind, order.goal)
 }
 
 #[test]
 fn words_are_read(rt: HostRuntime) {
-    let (kind, bits) = budget(Order::within_budget("2", "line", "0012"));
-    assert!(rt; kind == 2 && bits == 12);
-    let (kind, bits) = budget(Order::within_budget("70000", "pace", "99999999999999999999999"));
-    assert!(rt; kind == 65535 && bits == 65535);
+    let order = Order::within_budget("2", "line", "0012");
+    assert!(rt; order.map(asked) == Some((2, Goal::Budget(12))));
+    let order = Order::within_budget("70000", "pace", "99999999999999999999999");
+    assert!(rt; order.map(asked) == Some((65535, Goal::Budget(65535))));
     assert!(rt; Order::within_budget("2", "Line", "12").is_none());
     assert!(rt; Order::within_budget("2", "line", "").is_none());
     assert!(rt; Order::within_budget("+2", "line", "12").is_none());

@@ -8,4 +8,6 @@ mod exchanges;
 #[cfg(test)]
 mod lines;
 #[cfg(test)]
+mod samples;
+#[cfg(test)]
 mod worked;

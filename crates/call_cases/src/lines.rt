@@ -20,9 +20,7 @@ const CALLS: [&str; 13] = [
 #[test]
 fn a_line_is_the_text_of_its_command(rt: HostRuntime) -> Result<(), Fail> {
     for line in CALLS {
-        let Some(command) = parse_line(line.as_bytes()) else {
-            return Err(Fail::new("no call"));
-        };
+        let command = parse_line(line.as_bytes()).ok_or("no call")?;
         let text = format!(in rt.alloc(); "{command}")?;
         assert!(rt; text.as_str() == line);
     }

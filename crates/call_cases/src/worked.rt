@@ -1,10 +1,7 @@
 use examples::{Shown, worked_examples};
 
 fn bits(shown: Shown) -> Option<u16> {
-    match shown.answer {
-        Ok(polygon) => Some(polygon.bits),
-        Err(_) => None,
-    }
+    shown.answer.ok().map(|polygon| polygon.bits)
 }
 
 // What is proved of the examples, once more by running them.

@@ -1,5 +1,5 @@
 -- What the cost at a tolerance says of the polygons that fit a budget.
-use Rattle.std.proofs.Common.{◌≡◌, ℕ, ◌-◌, ◌*◌, ◌^◌, ◌<◌, ◌≤◌, true, false, leb, List, length, Some, None, Option, Result, sym, ap, ◌∙◌, subst, subst₂, ⊎_elim, mul-le-mul_left, arith, MatchResult}
+use Rattle.std.proofs.Common.{◌≡◌, ℕ, ◌-◌, ◌*◌, ◌^◌, ◌<◌, ◌≤◌, true, false, leb, List, length, Some, None, Option, sym, ap, ◌∙◌, subst, ⊎_elim, mul-le-mul_left, arith}
 use Rattle.coding.specs.Tables.{Table, Codes}
 use Rattle.cost.specs.Bits.{of_count}
 use Rattle.cost.specs.TwoPart.{both}
@@ -13,10 +13,8 @@ use Rattle.measure.specs.Fractions.{above, fraction, largest}
 use Rattle.measure.specs.Measures.{Strays}
 use Rattle.measure.specs.declared.fraction.Fraction.{Fraction}
 use Rattle.outline.specs.declared.point.Point.{Point}
-use Rattle.outline.specs.declared.refusal.Refusal.{Refusal}
 use Rattle.search.specs.Best.{Best, LeastCost, NoneUsable}
 use Rattle.search.specs.Cheapest.{priced_cost}
-use Rattle.search.specs.Rules.{RowsFilled}
 use Rattle.std.proofs.lemmas.Bool.{cases_Bool, cond_both, le-ltb, leb-true, leb-false, ltb-false, or_parts}
 use Rattle.weighing.proofs.Costs.{priced_polygon}
 use Rattle.weighing.proofs.Usable.{priced_usable, usable_priced}
@@ -37,26 +35,6 @@ largest_covers x =
 -- the numbers of a fraction make it again
 pub made_again : (t : Fraction) (a b : ℕ) → a ≡ t.top → b ≡ t.bottom → fraction a b ≡ Some t
 made_again t a b tops bottoms = ap (λ x. fraction x b) tops ∙ ap (fraction t.top) bottoms ∙ sym (fraction_is t)
-
-pub same_tolerance : (t t' : Fraction) (a b : ℕ) → a ≡ t.top → b ≡ t.bottom → Some t' ≡ fraction a b → t' ≡ t
-same_tolerance t t' a b tops bottoms e =
-    let again : Some t' ≡ Some t = e ∙ made_again t a b tops bottoms in
-    cc
-
--- what filling promises, for the same table and measure
-pub filled_same : (codes codes' : Table) (strays strays' : Strays) (ps : List Point) → codes' ≡ codes → strays' ≡ strays → (t t' : Fraction) → t' ≡ t
-    → (rows rows_after : List (Row (TwoPart Bits Deviation))) (r : Result (Option (TwoPart Bits Deviation)) Refusal)
-    → RowsFilled priced_cost (priced_weight codes' strays' t' ps) (length ps) rows rows_after r → RowsFilled priced_cost (priced_weight codes strays t ps) (length ps) rows rows_after r
-filled_same codes codes' strays strays' ps c s t t' e rows rows_after r h =
-    subst (λ x. RowsFilled priced_cost (priced_weight codes strays x ps) (length ps) rows rows_after r) e
-    (subst₂ (λ a b. RowsFilled priced_cost (priced_weight a b t' ps) (length ps) rows rows_after r) c s h)
-
-pub best_same : (codes codes' : Table) (strays strays' : Strays) (ps : List Point) → codes' ≡ codes → strays' ≡ strays → (t t' : Fraction) → t' ≡ t
-    → (Q : Type 0) (r : Result (Option (TwoPart Bits Deviation)) Refusal)
-    → MatchResult r (λ cost. LeastCost priced_cost (priced_weight codes' strays' t' ps) (length ps) cost) (λ _. Q) → MatchResult r (λ cost. LeastCost priced_cost (priced_weight codes strays t ps) (length ps) cost) (λ _. Q)
-best_same codes codes' strays strays' ps c s t t' e Q r h =
-    subst (λ x. MatchResult r (λ cost. LeastCost priced_cost (priced_weight codes strays x ps) (length ps) cost) (λ _. Q)) e
-    (subst₂ (λ a b. MatchResult r (λ cost. LeastCost priced_cost (priced_weight a b t' ps) (length ps) cost) (λ _. Q)) c s h)
 
 module _ (codes : Table) (strays : Strays) (ps : List Point) (few : length ps ≤ 256) (laws : Codes codes) where
   abbrev dev : List ℕ → Fraction

@@ -10,7 +10,8 @@ use Rattle.measure.specs.Measures.{Strays}
 use Rattle.measure.specs.declared.fraction.Fraction.{Fraction}
 use Rattle.outline.specs.Polygon.{edges}
 use Rattle.outline.specs.declared.point.Point.{Point}
-use Rattle.std.proofs.lemmas.Bool.{and_from, and_parts, and_left, and_right, both_ways, cases_Bool, cases_lt, cond-false, cond-true, ltb-true}
+use Rattle.std.proofs.lemmas.Bool.{and_from, and_parts, and_left, and_right, both_ways, cases_Bool, cases_lt, cond-true, ltb-true}
+use Rattle.std.proofs.lemmas.Option.{cond_some, none-some}
 use Rattle.std.specs.Option.{option_and}
 use Rattle.std.specs.List.{AllByRecursion}
 use Rattle.weighing.proofs.Costs.{polygon_length}
@@ -71,24 +72,20 @@ fewer f h n i j sub li lj gone x there =
 
 -- what a candidate is
 kept_back : (gap : Gap) (o : Option Fraction) (d : Fraction) → kept_inside gap o ≡ Some d → (o ≡ Some d) × (inside gap d ≡ true)
-kept_back gap (Some x) d e =
-    ⊎_elim
-    (λ t. let is : Some x ≡ Some d = sym (cond-true (inside gap x) (Some x) None t) ∙ e in let same : x ≡ d = cc in (is, ap (inside gap) (sym same) ∙ t))
-    (λ f. let no : None ≡ Some d = sym (cond-false (inside gap x) (Some x) None f) ∙ e in let z : ◌≡◌ {A = ℕ} 0 1 = cc in absurd (omega arith))
-    (cases_Bool (inside gap x))
-kept_back gap None d e = let z : ◌≡◌ {A = ℕ} 0 1 = cc in absurd (omega arith)
+kept_back gap (Some x) d e = let is = cond_some (inside gap x) x d e in (ap Some is.1, ap (inside gap) (sym is.1) ∙ is.0)
+kept_back gap None d e = cc
 
 other_back : {X Y : Type 0} (a : Option X) (b : Option Y) (y : Y) → option_and a b ≡ Some y → (is_some a ≡ true) × (b ≡ Some y)
 other_back (Some u) b y e = (refl, e)
-other_back None b y e = let z : ◌≡◌ {A = ℕ} 0 1 = cc in absurd (omega arith)
+other_back None b y e = cc
 
 other_made : {X Y : Type 0} (a : Option X) (b : Option Y) (y : Y) → is_some a ≡ true → b ≡ Some y → option_and a b ≡ Some y
 other_made (Some u) b y h e = e
-other_made None b y h e = absurd (both_ways false refl h)
+other_made None b y h e = cc
 
 has_value : {X : Type 0} (o : Option X) → is_some o ≡ true → (x : X) × (o ≡ Some x)
 has_value (Some x) h = (x, refl)
-has_value None h = absurd (both_ways false refl h)
+has_value None h = cc
 
 past_on : (low : Option Fraction) (t d : Fraction) → past low t ≡ true → above d t ≡ true → past low d ≡ true
 past_on None t d p h = refl
@@ -182,9 +179,7 @@ module _ (codes : Table) (strays : Strays) (ps : List Point) where
     module _ (gap : Gap) (high : Reached codes strays ps budget gap.high) (low : KnownLow gap.low) (none : Next codes strays ps gap None) where
       no_edge : (i j : ℕ) (x : Fraction) → is_some (edge_price codes ps i j) ≡ true → edge_deviation strays ps i j ≡ Some x → above gap.high x ≡ true → past gap.low x ≡ true → ⊥
       no_edge i j x p e above_x past_x =
-          let is : None ≡ Some x = sym (none i j) ∙ is_candidate gap i j x p e (and_from _ _ above_x past_x) in
-          let z : ◌≡◌ {A = ℕ} 0 1 = cc in
-          absurd (omega arith)
+          none-some x (sym (none i j) ∙ is_candidate gap i j x p e (and_from _ _ above_x past_x))
 
       -- a polygon with no edge has nought, as have then all polygons
       one_point : (us : List ℕ) → Fits codes ps budget us → length us ≤ 1 → above gap.high (dev us) ≡ true → ⊥

@@ -1,2 +1,3 @@
 pub mod Closest
 pub mod Gaps
+pub mod Goals

@@ -1,8 +1,7 @@
 // How many tolerances closest tries on outlines of 256 points by flat.
-use crate::choice::next_tolerance;
 use crate::gap::Gap;
+use crate::task::Task;
 use crate::tests::junk;
-use crate::tries::{fill_at, try_at};
 use coding::Flat;
 use cost::bits::Bits;
 use cost::two_part::TwoPart;
@@ -61,7 +60,13 @@ fn fillings(
     budget: u16,
     rows: &mut [Row<TwoPart<Bits, Deviation>>],
 ) -> Result<usize, Refusal> {
-    let Some(first) = fill_at(outline, &Flat, &Line, Fraction::largest(), rows)? else {
+    let task = Task {
+        outline,
+        coder: &Flat,
+        measure: &Line,
+        budget,
+    };
+    let Some(first) = task.fill_at(Fraction::largest(), rows)? else {
         return Ok(1);
     };
     let mut gap = Gap {
@@ -69,10 +74,10 @@ fn fillings(
         high: first.second.value,
     };
     for tries in 0..1000 {
-        let Some(tolerance) = next_tolerance(outline, &Flat, &Line, gap) else {
+        let Some(tolerance) = task.next_tolerance(gap) else {
             return Ok(tries + 2);
         };
-        match try_at(outline, &Flat, &Line, budget, tolerance, rows)? {
+        match task.try_at(tolerance, rows)? {
             Some(deviation) => gap.high = deviation,
             None => gap.low = Some(tolerance),
         }

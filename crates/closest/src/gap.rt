@@ -15,12 +15,6 @@ impl Gap {
     pub(crate) fn holds(self, deviation: Fraction) -> bool
         ensures { result ≡ inside self deviation }
     {
-        if !self.high.is_above(deviation) {
-            return false;
-        }
-        match self.low {
-            Some(low) => deviation.is_above(low),
-            None => true,
-        }
+        self.high.is_above(deviation) && self.low.is_none_or(|low| deviation.is_above(low))
     }
 }

@@ -8,21 +8,23 @@ ghost use Rattle.outline.specs.Plain.{plain};
 use coding::Coder;
 use cost::bits::Bits;
 use cost::two_part::TwoPart;
+pub use goal::{Goal, best_polygon};
 use graph::Row;
 use measure::{Fraction, Measure};
 use outline::{Outline, Refusal};
 use search::{PricedPolygon, cheapest, check_room};
-use smallest::smallest_deviation;
-use tries::fill_at;
+use task::Task;
 use weighing::Deviation;
 
 mod choice;
 #[cfg(test)]
 mod efforts;
 mod gap;
+mod goal;
 mod sample;
 mod sampling;
 mod smallest;
+mod task;
 #[cfg(test)]
 mod tests;
 mod tries;
@@ -40,13 +42,19 @@ pub fn closest<'a, C: Coder, M: Measure>(
     ensures best { length (plain outline.now).points ≤ length rows.old → length (plain outline.now).points ≤ length list.old → ClosestBest (C.Coder.table coder.now) (M.Measure.strays measure.now) budget (plain outline.now).points list.new result }
 {
     check_room(outline, rows.len(), list.len())?;
-    let Some(cost) = fill_at(outline, coder, measure, Fraction::largest(), rows)? else {
-        return Err(Refusal::NoUsable);
+    let task = Task {
+        outline,
+        coder,
+        measure,
+        budget,
     };
+    let cost = task
+        .fill_at(Fraction::largest(), rows)?
+        .ok_or(Refusal::NoUsable)?;
     if cost.first.count > budget {
         return Err(Refusal::OverBudget);
     }
-    let d = smallest_deviation(outline, coder, measure, budget, cost.second.value, rows)?;
+    let d = task.smallest_deviation(cost.second.value, rows)?;
     cheapest(
         outline,
         coder,

@@ -1,4 +1,4 @@
-ghost use Rattle.std.specs.Prelude.{◌≤◌, Some, None};
+ghost use Rattle.std.specs.Prelude.{◌≡◌, min, take, Some, None};
 ghost use Rattle.closest.specs.Gaps.{Among, Grown};
 
 use crate::sample::{ROOM, Sample};
@@ -34,39 +34,31 @@ impl Sample {
         grown
     }
 
-    // How many places count.
-    fn count(&self) -> usize
-        ensures { result ≤ 15 }
+    // The places that count.
+    fn counted(&self) -> &[Fraction]
+        ensures { result.now ≡ take (min self.now.seen 15) self.now.kept }
     {
-        if self.seen < ROOM { self.seen } else { ROOM }
+        &self.kept[..self.seen.min(ROOM)]
     }
 
     // How far a fraction's rank is from the middle.
     fn off_middle(&self, fraction: Fraction) -> usize {
-        let count = self.count();
-        let mut below: usize = 0;
-        for k in 0..count {
-            if fraction.is_above(self.kept[k]) {
-                below += 1;
-            }
-        }
-        below.abs_diff(count / 2)
+        let counted = self.counted();
+        let below = counted
+            .iter()
+            .filter(|kept| fraction.is_above(**kept))
+            .count();
+        below.abs_diff(counted.len() / 2)
     }
 
     // The fraction of the middle rank.
     pub(crate) fn middle(&self) -> Fraction
         ensures { Among self.now result }
     {
-        let mut middle = self.kept[0];
-        let mut off = self.off_middle(middle);
-        for k in 1..self.count() {
-            let other = self.kept[k];
-            let other_off = self.off_middle(other);
-            if other_off < off {
-                middle = other;
-                off = other_off;
-            }
-        }
-        middle
+        self.counted()
+            .iter()
+            .copied()
+            .min_by_key(|fraction| self.off_middle(*fraction))
+            .unwrap_or(self.kept[0])
     }
 }

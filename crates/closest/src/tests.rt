@@ -1,4 +1,4 @@
-use crate::closest;
+use crate::{Goal, best_polygon, closest};
 use coding::{Axis, Run};
 use cost::bits::Bits;
 use cost::two_part::TwoPart;
@@ -13,10 +13,9 @@ use weighing::Deviation;
 fn corner() -> Result<Outline, Refusal> {
     let mut outline = Outline::new();
     outline.open(32, 32, 5, 5)?;
-    outline.extend(0)?;
-    outline.extend(0)?;
-    outline.extend(6)?;
-    outline.extend(6)?;
+    for direction in [0, 0, 6, 6] {
+        outline.extend(direction)?;
+    }
     Ok(outline)
 }
 
@@ -35,10 +34,7 @@ pub(crate) fn junk() -> Row<TwoPart<Bits, Deviation>> {
 
 // The refusal's number, or 0.
 fn number(answer: Result<PricedPolygon, Refusal>) -> u8 {
-    match answer {
-        Ok(_) => 0,
-        Err(refusal) => refusal.number(),
-    }
+    answer.map_or_else(|refusal| refusal.number(), |_| 0)
 }
 
 fn answers(
@@ -48,13 +44,12 @@ fn answers(
     top: u64,
     bottom: u32,
 ) -> bool {
-    match answer {
-        Ok(a) => a.vertices == vertices
+    answer.is_ok_and(|a| {
+        a.vertices == vertices
             && a.bits == bits
             && a.deviation.top() == top
-            && a.deviation.bottom() == bottom,
-        Err(_) => false,
-    }
+            && a.deviation.bottom() == bottom
+    })
 }
 
 #[test]
@@ -130,4 +125,26 @@ fn one_point(rt: HostRuntime) {
     let answer = closest(&Outline::new(), &Run, &Line, 0, &mut [junk(); 1], &mut list);
     assert!(rt; answers(answer, 1, 0, 0, 1));
     assert_eq!(rt; list, [0, 9]);
+}
+
+// By a goal each is asked as by its own name.
+#[test]
+fn by_a_goal(rt: HostRuntime) -> Result<(), Fail> {
+    let outline = corner()?;
+    let mut rows = [junk(); 6];
+    let mut list = [9; 6];
+    let within_two = Goal::Tolerance { top: 2, bottom: 1 };
+    let cheap = best_polygon(within_two, &outline, &Run, &Line, &mut rows, &mut list);
+    assert!(rt; answers(cheap, 2, 6, 16, 8));
+    let close = best_polygon(
+        Goal::Budget(12),
+        &outline,
+        &Run,
+        &Line,
+        &mut rows,
+        &mut list,
+    );
+    assert!(rt; answers(close, 3, 12, 0, 1));
+    assert_eq!(rt; list, [0, 2, 4, 9, 9, 9]);
+    Ok(())
 }

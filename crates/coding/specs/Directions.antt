@@ -1,5 +1,7 @@
 -- Displacements along one of the eight directions.
 use Rattle.std.specs.Prelude.{◌≡◌, ℕ, ◌<◌, ◌≤◌, max, Bool, cond, ◌&&◌, ◌↔◌, List, [], ◌∷◌, ℤ, pos, ◌*ℤ◌, Some, None, Option, int_le, nat_lt, unsigned_abs}
+use Rattle.outline.specs.declared.direction.Direction.{Direction}
+use Rattle.outline.specs.Directions.{direction_number}
 use Rattle.outline.specs.Moves.{move}
 use Rattle.std.specs.Option.{option_map}
 
@@ -31,3 +33,7 @@ heading x y l = first (λ d. same x (taken d l).0 && same y (taken d l).1) (0 �
 -- The direction and the length of a displacement that is a length of 1 or more times the move of a direction, or none.
 abbrev pub along : ℤ → ℤ → Option (ℕ × ℕ)
 along x y = let l = max (unsigned_abs x) (unsigned_abs y) in cond (nat_lt 0 l) (option_map (λ d. (d, l)) (heading x y l)) None
+
+-- An answer of a direction and a length, with the number of the direction.
+abbrev pub numbered : Option (Direction × ℕ) → Option (ℕ × ℕ)
+numbered r = option_map (λ p. (direction_number p.0, p.1)) r

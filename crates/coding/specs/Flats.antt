@@ -1,7 +1,8 @@
 -- Flat codes.
-use Rattle.std.specs.Prelude.{◌≡◌, ℕ, suc, ◌+◌, ◌-◌, ◌*◌, ◌/◌, ◌%◌, ◌^◌, ◌<◌, ◌≤◌, Bool, true, ◌&&◌, List, ◌++◌, length, take, ℤ, pos, negsuc, ◌-ℤ◌, Some, FitsSigned, ◌≢◌, unsigned_abs, refl}
+use Rattle.std.specs.Prelude.{◌≡◌, ℕ, suc, ◌+◌, ◌-◌, ◌*◌, ◌/◌, ◌%◌, ◌^◌, ◌<◌, ◌≤◌, Bool, true, false, ◌&&◌, List, ◌++◌, length, take, ℤ, pos, negsuc, ◌-ℤ◌, Some, FitsSigned, MatchOption, ◌≢◌, unsigned_abs, refl}
 use Rattle.std.proofs.Common.{sym, ap, ap₂, ◌∙◌, arith, to_z, of_z}
-use Rattle.std.specs.Int.{w16}
+use Rattle.std.specs.Bool.{then_some}
+use Rattle.std.specs.Int.{w16, int_rem_euclid}
 use Rattle.std.proofs.lemmas.List.{length-append}
 use Rattle.std.proofs.lemmas.Int.{ints, to_z-of_z}
 use Rattle.std.proofs.lemmas.Bool.{and_from, and_parts, cond-true, cond-false, leb-true, le-leb}
@@ -77,11 +78,17 @@ flat_codes =
 pub flat_value : (x y : ℤ) (a b : ℕ) → a < 2048 → b < 2048 → low_bits 11 a ≡ twos 11 x → low_bits 11 b ≡ twos 11 y → a * 2048 + b ≡ value (flat_bits x y)
 flat_value x y a b p q e f = sym (value_two 11 11 a b p q) ∙ ap value (ap₂ ◌++◌ e f)
 
--- the bits of -1,024 are no number's
-pub no_lowest : (z : ℤ) → near z ≡ true → twos 11 z ≢ low_bits 11 1024
-no_lowest z t e =
-    let small = field_small z t in
-    small.1 (low_bits_one 11 (field z) 1024 small.0 (omega arith) (sym (twos_field z) ∙ e))
+-- the rest of a number by 2,048
+pub field_rest : (z : ℤ) → near z ≡ true → int_rem_euclid z (pos 2048) ≡ pos (field z)
+field_rest (pos n) t = let b = near_bound (pos n) t in ap pos (omega arith)
+field_rest (negsuc n) t = let b = near_bound (negsuc n) t in ap pos (omega arith)
+
+-- the answer of the field of a number
+pub field_answer : (z : ℤ) (n : ℕ) (t : Bool) → t ≡ near z → (near z ≡ true → n ≡ field z) → MatchOption (then_some t n) (near z ≡ false) (λ m. (near z ≡ true) × (m < 2048) × (low_bits 11 m ≡ twos 11 z))
+field_answer z n true is at =
+    let here = at (sym is) in
+    (sym is, omega (arith, here, (field_small z (sym is)).0), ap (low_bits 11) here ∙ sym (twos_field z))
+field_answer z n false is at = sym is
 
 -- 22 bits of a row
 module _ (v : ℕ) (row : List Bool) (small : v < 2 ^ 22) (front : take 22 row ≡ low_bits 22 v) where
@@ -121,3 +128,9 @@ flat_read v row small front x y p q e f =
 pub flat_spelled : (x y : ℤ) (a b : ℕ) → near x ≡ true → near y ≡ true → a < 2048 → b < 2048 → low_bits 11 a ≡ twos 11 x → low_bits 11 b ≡ twos 11 y → Some (a * 2048 + b, 22) ≡ spelled (flat x y)
 flat_spelled x y a b p q s t e f =
     ap₂ (λ (v n : ℕ). Some (v, n)) (flat_value x y a b s t e f) (sym (length_flat x y)) ∙ ap spelled (sym (flat_at x y p q))
+
+-- the bits of -1,024 are no number's
+pub no_lowest : (z : ℤ) → near z ≡ true → twos 11 z ≢ low_bits 11 1024
+no_lowest z t e =
+    let small = field_small z t in
+    small.1 (low_bits_one 11 (field z) 1024 small.0 (omega arith) (sym (twos_field z) ∙ e))

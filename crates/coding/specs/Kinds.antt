@@ -1,8 +1,10 @@
 -- The tables of the five kinds of code.
-use Rattle.std.specs.Prelude.{ℕ, suc, ◌-◌, ◌/◌, ◌%◌, ◌^◌, Bool, true, false, cond, ◌&&◌, List, [], ◌∷◌, ◌++◌, length, ℤ, pos, negsuc, Some, None, Option, ◌==◌, nat_le, nat_lt}
+use Rattle.std.specs.Prelude.{◌≡◌, ◌≢◌, ℕ, suc, ◌-◌, ◌/◌, ◌%◌, ◌^◌, Bool, true, false, cond, ◌&&◌, List, [], ◌∷◌, ◌++◌, length, ℤ, pos, negsuc, Some, None, Option, Result, MatchResult, ◌==◌, nat_le, nat_lt}
 use Rattle.std.specs.Option.{option_map, option_flatten}
 use Rattle.coding.specs.declared.kind.Kind.{Kind}
 use Rattle.coding.specs.declared.kind.Kind.TheVariants.{Flat, Run, Axis, Chain, RunFlat}
+use Rattle.outline.specs.declared.refusal.Refusal.{Refusal}
+use Rattle.outline.specs.declared.refusal.Refusal.TheVariants.{Kind as UnknownKind}
 use Rattle.coding.specs.Bits.{low_bits}
 use Rattle.coding.specs.Directions.{along}
 use Rattle.coding.specs.Tables.{Table, near}
@@ -70,6 +72,10 @@ kind_number Run = 2
 kind_number Axis = 3
 kind_number Chain = 4
 kind_number RunFlat = 5
+
+-- An answer is the kind of a number, or the refusal of a number that no kind has.
+abbrev pub KindOf : ℕ → Result Kind Refusal → Type 0
+KindOf number r = MatchResult r (λ k. kind_number k ≡ number) (λ e. (e ≡ UnknownKind) × ((k : Kind) → kind_number k ≢ number))
 
 -- The table of each kind of code; the fifth is the pair of run and flat.
 abbrev pub kind_table : Kind → Table

@@ -1,10 +1,11 @@
 -- Tables that write a direction and a length.
-use Rattle.std.specs.Prelude.{◌≡◌, ℕ, ◌<◌, ◌≤◌, Bool, true, false, ◌&&◌, List, length, ℤ, pos, negsuc, Some, None, Option, FitsSigned, unsigned_abs, refl}
+use Rattle.std.specs.Prelude.{◌≡◌, ℕ, ◌<◌, ◌≤◌, Bool, true, false, cond, ◌&&◌, List, length, ℤ, pos, negsuc, Some, None, Option, FitsSigned, unsigned_abs, refl}
 use Rattle.std.proofs.Common.{sym, ap, ap₂, ◌∙◌, arith, to_z, of_z}
 use Rattle.std.specs.Int.{w16}
 use Rattle.outline.specs.Moves.{move}
 use Rattle.std.proofs.lemmas.Int.{ints, to_z-of_z}
 use Rattle.std.proofs.lemmas.Bool.{and_from, le-leb, true≢false}
+use Rattle.std.specs.Bool.{then_some}
 use Rattle.std.specs.Option.{option_map, option_flatten}
 use Rattle.coding.specs.Bits.{value, Begins}
 use Rattle.coding.specs.Directions.{taken, Along, along}
@@ -100,11 +101,14 @@ module _ (f : Leg) (x y : ℤ) (d l : ℕ) (fx : FitsSigned w16 x) (fy : FitsSig
   at : by_direction f x y ≡ f d l
   at = sym (at_answer f x y (Some (d, l)) fx fy told)
 
-  pub leg_price : (code : List Bool) (n : ℕ) → f d l ≡ Some code → n ≡ length code → Some n ≡ price_of (by_direction f x y)
-  leg_price code n e long = ap Some long ∙ ap price_of (sym (at ∙ e))
+  -- where a test says whether there is a code
+  pub leg_price : (t : Bool) (code : List Bool) (n : ℕ) → f d l ≡ cond t (Some code) None → n ≡ length code → then_some t n ≡ price_of (by_direction f x y)
+  leg_price true code n e long = ap Some long ∙ ap price_of (sym (at ∙ e))
+  leg_price false code n e long = ap price_of (sym (at ∙ e))
 
-  pub leg_code : (code : List Bool) (v n : ℕ) → f d l ≡ Some code → v ≡ value code → n ≡ length code → Some (v, n) ≡ spelled (by_direction f x y)
-  leg_code code v n e spells long = ap₂ (λ (a b : ℕ). Some (a, b)) spells long ∙ ap spelled (sym (at ∙ e))
+  pub leg_code : (t : Bool) (code : List Bool) (v n : ℕ) → f d l ≡ cond t (Some code) None → (t ≡ true → v ≡ value code) → n ≡ length code → then_some t (v, n) ≡ spelled (by_direction f x y)
+  leg_code true code v n e spells long = ap₂ (λ (a b : ℕ). Some (a, b)) (spells refl) long ∙ ap spelled (sym (at ∙ e))
+  leg_code false code v n e spells long = ap spelled (sym (at ∙ e))
 
   pub leg_no_price : f d l ≡ None → None ≡ price_of (by_direction f x y)
   leg_no_price e = ap price_of (sym (at ∙ e))

@@ -1,15 +1,16 @@
 -- Run codes.
-use Rattle.std.specs.Prelude.{◌≡◌, ℕ, zero, suc, ◌+◌, ◌-◌, ◌*◌, ◌/◌, ◌%◌, ◌^◌, ◌<◌, ◌≤◌, Bool, List, ◌++◌, length, take, drop, Some, nat_le}
+use Rattle.std.specs.Prelude.{◌≡◌, ℕ, zero, suc, ◌+◌, ◌-◌, ◌*◌, ◌/◌, ◌%◌, ◌^◌, ◌<◌, ◌≤◌, Bool, List, ◌++◌, length, take, drop, cond, Some, None, nat_le}
 use Rattle.std.proofs.Common.{⊎_elim, sym, ap, ap₂, ◌∙◌, subst, subst₂, pow-suc, arith, take-add}
 use Rattle.std.proofs.Math.Nat.{pow-le-pow_right}
+use Rattle.std.specs.Bool.{then_some}
 use Rattle.std.specs.Int.Count.{count_leading_zeros}
 use Rattle.std.proofs.lemmas.Nat.{leading_top}
 use Rattle.std.proofs.lemmas.List.{length-append, take_at, take-take}
-use Rattle.std.proofs.lemmas.Bool.{cases_lt, cond-true, leb-true, le-leb}
+use Rattle.std.proofs.lemmas.Bool.{cases_lt, cases_Bool, cond-true, cond-false, leb-true, le-leb}
 use Rattle.coding.specs.Bits.{low_bits, value, Begins}
 use Rattle.coding.specs.Kinds.{class, run_code}
 use Rattle.coding.specs.BitLists.{length_low_bits, low_bits_one, low_bits_two, length_two, value_two, value_append, value_below, value_low}
-use Rattle.coding.specs.Fields.{cond_some, begins_same, begins_from, begins_fits}
+use Rattle.coding.specs.Fields.{none-some, cond_some, begins_same, begins_from, begins_fits}
 use Rattle.coding.specs.Legs.{Legs}
 use Rattle.coding.specs.Views.{append_parts}
 
@@ -36,13 +37,32 @@ class_bounds l some short =
     (cases_lt l 2)
 
 -- the leading zeros say the class
-pub class_zeros : (l : ℕ) → 1 ≤ l → l ≤ 15 → 15 - count_leading_zeros 16 l ≡ class l
+class_zeros : (l : ℕ) → 1 ≤ l → l ≤ 15 → 15 - count_leading_zeros 16 l ≡ class l
 class_zeros l some short =
     let top = leading_top 16 l (omega arith) (omega arith) in
     let j = top.0 in
     let few : j < 4 = ⊎_elim (λ h. h) (λ h. absurd (omega (arith, pow-le-pow_right {n = 2} (omega arith) h, top.2))) (cases_lt j 4) in
     let is : class l ≡ j = class_is j l few top.2 (omega (arith, top.3, pow-suc 2 j)) in
     omega (arith, top.1, is)
+
+-- the class by the leading zeros, where a run has the length
+pub class_answer : (l : ℕ) → 1 ≤ l → then_some (nat_le l 15) (15 - count_leading_zeros 16 l) ≡ cond (nat_le l 15) (Some (class l)) None
+class_answer l some =
+    ⊎_elim
+    (λ t. ap (λ b. then_some b (15 - count_leading_zeros 16 l)) t ∙ ap Some (class_zeros l some (leb-true l 15 t)) ∙ sym (cond-true (nat_le l 15) _ _ t))
+    (λ f. ap (λ b. then_some b (15 - count_leading_zeros 16 l)) f ∙ sym (cond-false (nat_le l 15) _ _ f))
+    (cases_Bool (nat_le l 15))
+
+-- what the class of a length tells, or that there is none
+pub class_told : (l k : ℕ) → Some k ≡ cond (nat_le l 15) (Some (class l)) None → (l ≤ 15) × (class l ≡ k)
+class_told l k e = let parts = cond_some (nat_le l 15) (class l) k (sym e) in (leb-true l 15 parts.0, parts.1)
+
+pub class_untold : (d l : ℕ) → None ≡ cond (nat_le l 15) (Some (class l)) None → run_code d l ≡ None
+class_untold d l e =
+    ⊎_elim
+    (λ t. none-some (class l) (e ∙ cond-true (nat_le l 15) _ _ t))
+    (λ f. cond-false (nat_le l 15) _ _ f)
+    (cases_Bool (nat_le l 15))
 
 abbrev pub run_bits : ℕ → ℕ → List Bool
 run_bits d l = low_bits 3 d ++ low_bits 2 (class l) ++ low_bits (class l) (l - 2 ^ class l)

@@ -1,12 +1,16 @@
 -- Moves taken some times, and the direction of a displacement.
-use Rattle.std.specs.Prelude.{◌≡◌, ℕ, zero, suc, ◌+◌, ◌*◌, ◌^◌, ◌<◌, ◌≤◌, max, Bool, true, cond, ◌&&◌, List, [], ◌∷◌, ◌++◌, ℤ, pos, negsuc, ◌*ℤ◌, neg_ℤ, Some, None, Option, FitsSigned, ◌≢◌, int_le, nat_lt, slice_index, unsigned_abs, refl}
+use Rattle.std.specs.Prelude.{◌≡◌, ℕ, zero, suc, ◌+◌, ◌*◌, ◌^◌, ◌<◌, ◌≤◌, max, Bool, true, cond, ◌&&◌, List, [], ◌∷◌, ◌++◌, ℤ, pos, negsuc, ◌*ℤ◌, neg_ℤ, Some, None, Ok, Err, Option, Result, FitsSigned, ◌≢◌, int_le, nat_lt, slice_index, unsigned_abs, refl}
 use Rattle.std.proofs.Common.{⊎_elim, sym, ap, ap₂, ◌∙◌, subst, subst₂, arith, to_z, of_z}
 use Rattle.std.specs.Int.{w16, w32}
+use Rattle.outline.specs.declared.direction.Direction.{Direction}
+use Rattle.outline.specs.declared.refusal.Refusal.{Refusal}
+use Rattle.outline.specs.Directions.{direction_number, Numbered}
 use Rattle.outline.specs.Moves.{move, moves}
 use Rattle.std.proofs.lemmas.List.{get_or_past}
 use Rattle.std.proofs.lemmas.Int.{ints, to_z-of_z}
 use Rattle.std.proofs.lemmas.Bool.{and_from, and_parts, cases_Bool, cases_lt, cond-true, cond-false, le-leb, lt-ltb}
 use Rattle.std.specs.Option.{option_map}
+use Rattle.std.specs.Result.{result_ok}
 use Rattle.coding.specs.Fields.{none-some}
 use Rattle.coding.specs.Directions.{taken, Along, Leads, same, first, heading, along}
 
@@ -21,6 +25,15 @@ each P p0 p1 p2 p3 p4 p5 p6 p7 (suc (suc (suc (suc (suc zero))))) h = p5
 each P p0 p1 p2 p3 p4 p5 p6 p7 (suc (suc (suc (suc (suc (suc zero)))))) h = p6
 each P p0 p1 p2 p3 p4 p5 p6 p7 (suc (suc (suc (suc (suc (suc (suc zero))))))) h = p7
 each P p0 p1 p2 p3 p4 p5 p6 p7 (suc (suc (suc (suc (suc (suc (suc (suc d)))))))) h = absurd (omega arith)
+
+-- the direction of a number
+pub number_told : (n : ℕ) (r : Result Direction Refusal) (d : Direction) → Numbered n r → Some d ≡ result_ok r → direction_number d ≡ n
+number_told n (Ok e) d is told = let same : d ≡ e = cc in ap direction_number same ∙ is
+number_told n (Err e) d is told = none-some d (sym told)
+
+pub number_untold : (n : ℕ) (r : Result Direction Refusal) → Numbered n r → None ≡ result_ok r → 8 ≤ n
+number_untold n (Ok e) is none = none-some e none
+number_untold n (Err e) is none = is.0
 
 -- a move changes each number by one at most
 pub move_small : (d : ℕ) → d < 8 → (unsigned_abs (move d).0 ≤ 1) × (unsigned_abs (move d).1 ≤ 1)

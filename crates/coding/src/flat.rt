@@ -1,4 +1,4 @@
-ghost use Rattle.std.specs.Prelude.{◌≡◌, ◌<◌, true, ℤ, MatchOption, ◌≢◌};
+ghost use Rattle.std.specs.Prelude.{◌≡◌, ◌<◌, true, false, ℤ, MatchOption, ◌≢◌};
 ghost use Rattle.coding.specs.Bits.{low_bits};
 ghost use Rattle.coding.specs.Kinds.{flat, twos};
 ghost use Rattle.coding.specs.Tables.{near as is_near};
@@ -6,6 +6,7 @@ ghost use Rattle.coding.specs.Flats.{flat_codes};
 
 use super::bit_row::BitRow;
 use super::coder::Coder;
+use std::cmp::Ordering;
 
 // Both numbers of a displacement in eleven bits of two's complement each.
 #[derive(Clone, Copy)]
@@ -15,19 +16,14 @@ pub struct Flat;
 fn near(z: i16) -> bool
     ensures { result ≡ is_near z }
 {
-    -1023 <= z && z <= 1023
+    (-1023..=1023).contains(&z)
 }
 
-// The eleven bits of a number.
-fn field(z: i16) -> u32
-    requires { is_near z ≡ true }
-    ensures { (result < 2048) × (low_bits 11 result ≡ twos 11 z) }
+// The eleven bits of a number, where a displacement can have it.
+fn field(z: i16) -> Option<u32>
+    ensures { MatchOption result (is_near z ≡ false) (λ n. (is_near z ≡ true) × (n < 2048) × (low_bits 11 n ≡ twos 11 z)) }
 {
-    if z < 0 {
-        2048 - z.unsigned_abs() as u32
-    } else {
-        z.unsigned_abs() as u32
-    }
+    near(z).then_some(z.rem_euclid(2048) as u32)
 }
 
 // The bits of -1,024, which is no number of a displacement.
@@ -38,12 +34,10 @@ fn signed(bits: u32) -> Option<i16>
     requires { bits < 2048 }
     ensures { MatchOption result ((z : ℤ) → is_near z ≡ true → twos 11 z ≢ low_bits 11 bits) (λ z. (is_near z ≡ true) × (twos 11 z ≡ low_bits 11 bits)) }
 {
-    if bits < LOWEST {
-        Some(bits as i16)
-    } else if bits == LOWEST {
-        None
-    } else {
-        Some(bits as i16 - 2048)
+    match bits.cmp(&LOWEST) {
+        Ordering::Less => Some(bits as i16),
+        Ordering::Equal => None,
+        Ordering::Greater => Some(bits as i16 - 2048),
     }
 }
 
@@ -53,15 +47,13 @@ impl Coder for Flat {
     ghost codes = { λ s. flat_codes };
 
     fn price(&self, dx: i16, dy: i16) -> Option<u8> {
-        if near(dx) && near(dy) { Some(22) } else { None }
+        (near(dx) && near(dy)).then_some(22)
     }
 
     fn code(&self, dx: i16, dy: i16) -> Option<(u32, u8)> {
-        if near(dx) && near(dy) {
-            Some((field(dx) * 2048 + field(dy), 22))
-        } else {
-            None
-        }
+        let cols = field(dx)?;
+        let rows = field(dy)?;
+        Some((cols * 2048 + rows, 22))
     }
 
     fn read(&self, row: BitRow<'_>) -> Option<(i16, i16, u8)> {

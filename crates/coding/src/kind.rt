@@ -1,7 +1,7 @@
-// The kinds of code, each with its table.
+// The kinds of code, each with its table and its number.
 #[derive(Clone, Copy, PartialEq, Eq, Debug)]
 pub enum Kind {
-    Flat,
+    Flat = 1,
     Run,
     Axis,
     Chain,

@@ -1,6 +1,5 @@
-ghost use Rattle.std.specs.Prelude.{◌≡◌, MatchResult, ◌≢◌};
-ghost use Rattle.coding.specs.Kinds.{kind_number, kind_table, by_direction, run_code, axis_code, chain_code};
-ghost use Rattle.outline.specs.declared.refusal.Refusal.TheVariants.{Kind as UnknownKind};
+ghost use Rattle.std.specs.Prelude.{◌≡◌};
+ghost use Rattle.coding.specs.Kinds.{KindOf, kind_number, kind_table, by_direction, run_code, axis_code, chain_code};
 ghost use Rattle.coding.specs.declared.kind.Kind.TheVariants.{Flat, Run, Axis, Chain, RunFlat};
 ghost use Rattle.coding.specs.Kinds;
 ghost use Rattle.coding.specs.Axes.{axis_legs};
@@ -25,11 +24,12 @@ const RUN_FLAT: Pair<Run, Flat> = Pair {
     second: Flat,
 };
 
-impl Kind {
-    // The kind of a number, or the refusal of a number that has none.
-    pub fn from_number(number: u16) -> Result<Kind, Refusal>
-        ensures { MatchResult result (λ k. kind_number k ≡ number) (λ e. (e ≡ UnknownKind) × ((k : Kind) → kind_number k ≢ number)) }
-    {
+impl TryFrom<u16> for Kind {
+    type Error = Refusal;
+
+    ghost try_from_gives = { KindOf };
+
+    fn try_from(number: u16) -> Result<Self, Refusal> {
         match number {
             1 => Ok(Kind::Flat),
             2 => Ok(Kind::Run),
@@ -39,17 +39,13 @@ impl Kind {
             _ => Err(Refusal::Kind),
         }
     }
+}
 
-    pub fn number(self) -> u16
-        ensures { result ≡ kind_number self }
-    {
-        match self {
-            Kind::Flat => 1,
-            Kind::Run => 2,
-            Kind::Axis => 3,
-            Kind::Chain => 4,
-            Kind::RunFlat => 5,
-        }
+impl From<Kind> for u16 {
+    ghost from_gives = { λ kind number. number ≡ kind_number kind };
+
+    fn from(kind: Kind) -> u16 {
+        kind as u16
     }
 }
 

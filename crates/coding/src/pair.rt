@@ -21,10 +21,7 @@ const LONGEST: u8 = 32;
 fn roomy(price: Option<u8>) -> Option<u8>
     ensures { (a : Maybe (List Bool)) → price ≡ price_of a → result ≡ price_of (roomy_of a) }
 {
-    match price {
-        Some(n) if n < LONGEST => Some(n),
-        _ => None,
-    }
+    price.filter(|n| *n < LONGEST)
 }
 
 // The first bit of a pair's code and the length of the rest, by the prices of the two.
@@ -88,7 +85,6 @@ impl<A: Coder, B: Coder> Coder for Pair<A, B> {
         let second = row.bit(0)?;
         let (dx, dy, n) = self.read_of(second, row.skip(1))?;
         let (used, _) = self.marker(dx, dy)?;
-        let found = (dx, dy, n + 1);
-        if used == second { Some(found) } else { None }
+        (used == second).then_some((dx, dy, n + 1))
     }
 }

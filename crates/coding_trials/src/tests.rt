@@ -24,43 +24,24 @@ fn returns<C: Coder>(coder: &C, dx: i16, dy: i16, behind: u64) -> bool {
 // Whether what the last n bits of two bytes read as is written as they are.
 fn spells<C: Coder>(coder: &C, bytes: [u8; 2], n: usize) -> bool {
     let row = BitRow::new(&bytes).skip(16 - n.min(16));
-    match coder.read(row) {
-        None => true,
-        Some((dx, dy, k)) => match (coder.code(dx, dy), row.number(k)) {
-            (Some((bits, price)), Some(front)) => bits == front && price == k,
-            _ => false,
-        },
-    }
+    coder.read(row).is_none_or(|(dx, dy, k)| {
+        row.number(k)
+            .is_some_and(|front| coder.code(dx, dy) == Some((front, k)))
+    })
 }
 
 fn column<C: Coder>(coder: &C, dx: i16) -> bool {
-    for k in 0..141u8 {
-        let dy = k as i16 - 70;
-        if !returns(coder, dx, dy, 0) || !returns(coder, dx, dy, u64::MAX) {
-            return false;
-        }
-    }
-    true
+    (-70..=70).all(|dy| returns(coder, dx, dy, 0) && returns(coder, dx, dy, u64::MAX))
 }
 
 // Every displacement with numbers of -70 to 70.
 fn square<C: Coder>(coder: &C) -> bool {
-    for k in 0..141u8 {
-        if !column(coder, k as i16 - 70) {
-            return false;
-        }
-    }
-    true
+    (-70..=70).all(|dx| column(coder, dx))
 }
 
 // Every row of n bits, up to 12.
 fn rows<C: Coder>(coder: &C, n: usize) -> bool {
-    for bits in 0..4096u16 {
-        if !spells(coder, bits.to_be_bytes(), n) {
-            return false;
-        }
-    }
-    true
+    (0..4096u16).all(|bits| spells(coder, bits.to_be_bytes(), n))
 }
 
 #[test]
@@ -73,15 +54,13 @@ fn every_code_reads_back(rt: HostRuntime) {
 #[test]
 fn short_rows(rt: HostRuntime) {
     for n in 0..13usize {
-        assert!(rt; rows(&Kind::Flat, n) && rows(&Kind::Run, n) && rows(&Kind::Axis, n));
-        assert!(rt; rows(&Kind::Chain, n) && rows(&Kind::RunFlat, n));
+        assert!(rt; KINDS.iter().all(|kind| rows(kind, n)));
     }
 }
 
 #[test]
 fn far_numbers(rt: HostRuntime) {
-    for k in 0..2049u16 {
-        let z = k as i16 - 1024;
+    for z in -1024..=1024i16 {
         assert!(rt; returns(&Flat, z, -1023, 0) && returns(&Flat, 1023, z, u64::MAX));
         assert!(rt; (Flat.price(z, 0) == Some(22)) == (-1024 < z && z < 1024));
     }
@@ -118,20 +97,11 @@ fn pairs(rt: HostRuntime) {
     );
 }
 
-fn unknown(number: u16) -> bool {
-    match Kind::from_number(number) {
-        Err(Refusal::Kind) => true,
-        _ => false,
-    }
-}
-
 #[test]
 fn numbers_of_kinds(rt: HostRuntime) {
     for kind in KINDS {
-        match Kind::from_number(kind.number()) {
-            Ok(same) => assert!(rt; same == kind),
-            Err(_) => assert!(rt; false),
-        }
+        assert_eq!(rt; Kind::try_from(u16::from(kind)), Ok(kind));
     }
-    assert!(rt; unknown(0) && unknown(6));
+    assert_eq!(rt; Kind::try_from(0), Err(Refusal::Kind));
+    assert_eq!(rt; Kind::try_from(6), Err(Refusal::Kind));
 }

@@ -1,5 +1,5 @@
 -- A price is its bits.
-use Rattle.std.proofs.Common.{◌≡◌, ℕ, ◌<◌, ◌≤◌, Some, None, Option, refl, ap, ◌∙◌, subst, arith}
+use Rattle.std.proofs.Common.{◌≡◌, ℕ, ◌≤◌, Some, None, Option, ap, ◌∙◌, subst}
 use native.Mathlib.Bridge.{le_prop}
 use native.Mathlib.Decide.{dec_le}
 use Rattle.cost.specs.Prices.{priced}
@@ -22,11 +22,3 @@ priced_some n p e = go (dec_le 1 n) (dec_le n 32)
     go (yes a) (yes b) = ap Some (same_price p (record { bits = n; some = a; few = b }) e)
     go (yes a) (no b) = absurd (b (subst (λ m. m ≤ 32) e p.few))
     go (no a) b = absurd (a (subst (λ m. 1 ≤ m) e p.some))
-
-pub priced_none : (n : ℕ) → (1 ≤ n → 32 < n) → None ≡ priced n
-priced_none n out = go (dec_le 1 n) (dec_le n 32)
-  where
-    go : (a : Dec (1 ≤ n)) (b : Dec (n ≤ 32)) → None ≡ (elim a as (λ _. Option Price) [ yes some ↦ elim b as (λ _. Option Price) [ yes few ↦ Some (record { bits = n; some = some; few = few }) | no _ ↦ None ] | no _ ↦ None ])
-    go (yes a) (yes b) = let far = out a in absurd (omega arith)
-    go (yes a) (no b) = refl
-    go (no a) b = refl

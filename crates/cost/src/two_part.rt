@@ -32,12 +32,7 @@ impl<A: StrictCost, B: Cost> Cost for TwoPart<A, B> {
     }
 
     fn above(self, other: TwoPart<A, B>) -> bool {
-        if self.first.above(other.first) {
-            true
-        } else if other.first.above(self.first) {
-            false
-        } else {
-            self.second.above(other.second)
-        }
+        self.first.above(other.first)
+            || !other.first.above(self.first) && self.second.above(other.second)
     }
 }

@@ -10,10 +10,7 @@ use std::process::ExitCode;
 const USAGE: &str = "usage: decode";
 
 fn is_called_alone(rt: &HostRuntime) -> bool {
-    match env::args(rt) {
-        Ok(args) => args.count() == 1,
-        Err(_) => false,
-    }
+    env::args(rt).is_ok_and(|args| args.count() == 1)
 }
 
 fn run(rt: &HostRuntime) -> anyhow::Result<()> {

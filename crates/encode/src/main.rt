@@ -12,12 +12,8 @@ const USAGE: &str = "usage: encode KIND MEASURE TOP BOTTOM
 KIND is 1 to 5, MEASURE is line or pace";
 
 fn order(rt: &HostRuntime) -> Option<Order> {
-    let Ok(args) = env::args(rt) else {
-        return None;
-    };
-    let Ok(words) = args.skip(1).collect::<Vec<String>>(rt.alloc()) else {
-        return None;
-    };
+    let args = env::args(rt).ok()?;
+    let words = args.skip(1).collect::<Vec<String>>(rt.alloc()).ok()?;
     match words.as_slice() {
         [kind, measure, bits] => {
             Order::within_budget(kind.as_str(), measure.as_str(), bits.as_str())
@@ -33,15 +29,12 @@ fn order(rt: &HostRuntime) -> Option<Order> {
 }
 
 fn run(rt: &HostRuntime) -> anyhow::Result<()> {
-    let Some(order) = order(rt) else {
-        return Err(anyhow!("{USAGE}"));
-    };
+    let order = order(rt).ok_or_else(|| anyhow!("{USAGE}"))?;
     let mut bytes = Vec::new(rt.alloc());
     rt.stdin().read_to_end(&mut bytes)?;
     let mut buffer = [0; MOST_BYTES];
-    let written = encode(&bytes, order.kind, order.measure, order.goal, &mut buffer)?;
-    let length = written.bytes;
-    rt.stdout().write_all(&buffer[0..length])?;
+    let written = encode(&bytes, order, &mut buffer)?;
+    rt.stdout().write_all(&buffer[..written.bytes])?;
     Ok(())
 }
 

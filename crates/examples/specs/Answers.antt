@@ -1,24 +1,21 @@
 -- What the rules answer for an outline, in plain numbers.
 use Rattle.std.specs.Prelude.{◌≡◌, ℕ, ◌≤◌, List, ◌∷◌, map, length, take, Ok, Err, Result}
-use Rattle.closest.specs.Closest.{ClosestRule}
+use Rattle.closest.specs.Goals.{RuleFor}
+use Rattle.closest.specs.declared.goal.Goal.{Goal}
 use Rattle.coding.specs.Kinds.{kind_table}
 use Rattle.coding.specs.Tables.{Table}
 use Rattle.coding.specs.declared.kind.Kind.{Kind}
 use Rattle.cost.specs.declared.bits.Bits.{Bits}
 use Rattle.cost.specs.declared.two_part.TwoPart.{TwoPart}
 use Rattle.graph.specs.declared.Row.{Row}
-use Rattle.measure.specs.Fractions.{fraction}
 use Rattle.measure.specs.Measures.{Strays}
 use Rattle.outline.specs.Plain.{new_plain}
 use Rattle.outline.specs.Runs.{after}
 use Rattle.outline.specs.declared.call.Call.TheVariants.{Open, Extend}
 use Rattle.outline.specs.declared.point.Point.{Point}
 use Rattle.outline.specs.declared.refusal.Refusal.{Refusal}
-use Rattle.search.specs.Cheapest.{CheapestRule}
 use Rattle.search.specs.declared.by_price.PricedPolygon.{PricedPolygon}
 use Rattle.weighing.specs.declared.deviation.Deviation.{Deviation}
-use Rattle.examples.specs.declared.asking.Ask.{Ask}
-use Rattle.examples.specs.declared.asking.Ask.TheVariants.{Cheapest, Closest}
 use Rattle.examples.specs.declared.asking.Shown.{Shown}
 
 -- The points of an outline that starts at column 5 of row 5 of a 32 by 32 frame and goes by these directions.
@@ -48,15 +45,10 @@ Always n rule answer =
     (rows rows_after : List (Row (TwoPart Bits Deviation))) (list list_after : List ℕ) (r : Result PricedPolygon Refusal) →
     n ≤ length rows → length rows_after ≡ length rows → n ≤ length list → rule rows rows_after list list_after r → numbers list_after r ≡ answer
 
--- The rule of what is asked, by a table of codes and a measure, for some points.
-abbrev pub asked : Ask → Table → Strays → List Point → Rule
-asked (Cheapest top bottom) codes strays ps = CheapestRule codes strays (fraction top bottom) ps
-asked (Closest budget) codes strays ps = ClosestRule codes strays budget ps
-
 -- For the outline of these directions, what is asked by a kind of code and a measure is always answered so.
-abbrev pub Fact : Ask → List ℕ → Kind → Strays → Numbers → Type 0
-Fact ask directions kind strays answer = Always (length (traced directions)) (asked ask (kind_table kind) strays (traced directions)) answer
+abbrev pub Fact : Goal → List ℕ → Kind → Strays → Numbers → Type 0
+Fact goal directions kind strays answer = Always (length (traced directions)) (RuleFor goal (kind_table kind) strays (traced directions)) answer
 
 -- It is always answered so, and so it is shown.
-abbrev pub Answers : Ask → List ℕ → Kind → Strays → Numbers → Shown → Type 0
-Answers ask directions kind strays answer s = Fact ask directions kind strays answer × (numbers s.list s.answer ≡ answer)
+abbrev pub Answers : Goal → List ℕ → Kind → Strays → Numbers → Shown → Type 0
+Answers goal directions kind strays answer s = Fact goal directions kind strays answer × (numbers s.list s.answer ≡ answer)

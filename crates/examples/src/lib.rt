@@ -3,8 +3,9 @@
 
 ghost use Rattle.examples.specs.Examples.{Examples};
 
+pub use asking::Shown;
 use asking::show;
-pub use asking::{Ask, Shown};
+use closest::Goal;
 use coding::Kind;
 use measure::{Line, Pace};
 use outlines::outline_by;
@@ -37,18 +38,18 @@ pub fn worked_examples() -> Worked
     let diagonal = outline_by(&[7]);
     let back = outline_by(&[0, 4]);
     let straight = outline_by(&[0; 16]);
-    let exactly = Ask::Cheapest { top: 0, bottom: 1 };
-    let within_one = Ask::Cheapest { top: 1, bottom: 1 };
-    let within_two = Ask::Cheapest { top: 2, bottom: 1 };
+    let exactly = Goal::Tolerance { top: 0, bottom: 1 };
+    let within_one = Goal::Tolerance { top: 1, bottom: 1 };
+    let within_two = Goal::Tolerance { top: 2, bottom: 1 };
     Worked {
         alone: show(exactly, &start, &Kind::Run, &Line),
         chord: show(within_two, &corner, &Kind::Run, &Line),
         legs: show(within_one, &corner, &Kind::Run, &Line),
         flat: show(within_one, &corner, &Kind::Flat, &Line),
         paced: show(within_two, &corner, &Kind::Run, &Pace),
-        over: show(Ask::Closest { budget: 5 }, &corner, &Kind::Run, &Line),
-        near: show(Ask::Closest { budget: 11 }, &corner, &Kind::Run, &Line),
-        exact: show(Ask::Closest { budget: 12 }, &corner, &Kind::Run, &Line),
+        over: show(Goal::Budget(5), &corner, &Kind::Run, &Line),
+        near: show(Goal::Budget(11), &corner, &Kind::Run, &Line),
+        exact: show(Goal::Budget(12), &corner, &Kind::Run, &Line),
         diagonal: show(exactly, &diagonal, &Kind::Axis, &Line),
         back: show(within_one, &back, &Kind::Flat, &Line),
         long: show(exactly, &straight, &Kind::Run, &Line),

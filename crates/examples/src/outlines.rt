@@ -10,8 +10,8 @@ pub(crate) fn outline_by(directions: &[u8]) -> Outline
 {
     let mut outline = Outline::new();
     let _ = outline.open(32, 32, 5, 5);
-    for i in 0..directions.len() {
-        let _ = outline.extend(directions[i]);
+    for direction in directions {
+        let _ = outline.extend(*direction);
     }
     outline
 }

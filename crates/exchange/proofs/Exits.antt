@@ -17,7 +17,7 @@ use Rattle.exchange.proofs.Written.{written_within, written_ample}
 use Rattle.exchange.specs.Encoding.{BestWritten, Encoded, unplaced}
 use Rattle.exchange.specs.declared.failure.Failure.{Failure}
 use Rattle.exchange.specs.declared.failure.Failure.TheVariants.{Record as AtRecord, Refused as ByRefusal}
-use Rattle.exchange.specs.declared.order.Goal.{Goal}
+use Rattle.closest.specs.declared.goal.Goal.{Goal}
 
 module _ (n : ℕ) (strays : Strays) (goal : Goal) (bs before : List ℕ) where
   -- the three promises of encode

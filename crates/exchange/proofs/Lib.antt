@@ -1,6 +1,7 @@
 mod Choosing
 mod Exits
 mod Lines
+mod Measures
 mod Numerals
 mod Sizes
 mod Written

@@ -1,11 +1,11 @@
 -- Numbers in words, up to a limit.
-use Rattle.std.proofs.Common.{◌≡◌, ℕ, ◌+◌, ◌-◌, ◌*◌, ◌<◌, ◌≤◌, min, true, false, ◌&&◌, ltb, List, [], ◌∷◌, length, get_or, drop, Some, None, sym, ap, ◌∙◌, ⊎_elim, arith}
+use Rattle.std.proofs.Common.{◌≡◌, ℕ, ◌+◌, ◌-◌, ◌*◌, ◌<◌, ◌≤◌, min, true, ◌&&◌, List, [], ◌∷◌, length, get_or, drop, sym, ap, ◌∙◌, ⊎_elim, arith}
 use native.Mathlib.Nat.{min-eq_left, min-eq_right}
-use Rattle.std.proofs.lemmas.List.{at_drop_more, at_drop_all}
-use Rattle.std.proofs.lemmas.Bool.{cases_lt, cond-true, cond-false, and_from, and_right, lt-ltb}
+use Rattle.std.proofs.lemmas.List.{at_drop_more}
+use Rattle.std.proofs.lemmas.Bool.{cases_lt}
 use Rattle.std.specs.Char.{is_ascii_digit}
 use Rattle.std.specs.Str.{all_ascii_digits}
-use Rattle.exchange.specs.Words.{number_from, number_in}
+use Rattle.exchange.specs.Words.{number_from}
 
 number_grows : (n : ℕ) (cs : List ℕ) → n ≤ number_from n cs
 number_grows n [] = omega arith
@@ -37,15 +37,3 @@ digit_more w i n m limit l is so_far =
 pub digits_more : (w : List ℕ) (i : ℕ) → i < length w → is_ascii_digit (get_or w i 0) ≡ true → all_ascii_digits w ≡ all_ascii_digits (drop i w) → all_ascii_digits w ≡ all_ascii_digits (drop (i + 1) w)
 digits_more w i l digit so_far =
     so_far ∙ at_drop_more all_ascii_digits w i 0 l ∙ ap (λ b. b && all_ascii_digits (drop (i + 1) w)) digit
-
-pub no_digit : (w : List ℕ) (i limit : ℕ) → i < length w → is_ascii_digit (get_or w i 0) ≡ false → all_ascii_digits w ≡ all_ascii_digits (drop i w) → number_in limit w ≡ None
-no_digit w i limit l other so_far =
-    let none : all_ascii_digits w ≡ false = so_far ∙ at_drop_more all_ascii_digits w i 0 l ∙ ap (λ b. b && all_ascii_digits (drop (i + 1) w)) other in
-    cond-false (ltb 0 (length w) && all_ascii_digits w) _ _ (and_right (ltb 0 (length w)) (all_ascii_digits w) none)
-
-pub digits_all : (w : List ℕ) (i n limit : ℕ) → 0 < length w → length w ≤ i → n ≤ limit → all_ascii_digits w ≡ all_ascii_digits (drop i w)
-    → min (number_from 0 w) limit ≡ min (number_from n (drop i w)) limit → number_in limit w ≡ Some n
-digits_all w i n limit some end fits digits number =
-    let all : all_ascii_digits w ≡ true = digits ∙ at_drop_all all_ascii_digits w i end in
-    let is : min (number_from 0 w) limit ≡ n = number ∙ at_drop_all (λ cs. min (number_from n cs) limit) w i end ∙ min-eq_left fits in
-    cond-true (ltb 0 (length w) && all_ascii_digits w) _ _ (and_from (ltb 0 (length w)) (all_ascii_digits w) (lt-ltb 0 (length w) some) all) ∙ ap (λ k. Some k) is

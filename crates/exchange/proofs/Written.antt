@@ -18,9 +18,9 @@ use Rattle.search.specs.declared.by_price.PricedPolygon.{PricedPolygon}
 use Rattle.exchange.proofs.Choosing.{best_usable}
 use Rattle.exchange.proofs.Sizes.{kind_short, record_there}
 use Rattle.exchange.specs.Encoding.{FoundWritten, BestWritten}
-use Rattle.exchange.specs.Goals.{BestFor}
-use Rattle.exchange.specs.declared.order.Goal.{Goal}
-use Rattle.exchange.specs.declared.order.Goal.TheVariants.{Tolerance, Budget}
+use Rattle.closest.specs.Goals.{BestFor}
+use Rattle.closest.specs.declared.goal.Goal.{Goal}
+use Rattle.closest.specs.declared.goal.Goal.TheVariants.{Tolerance, Budget}
 
 module _ (k : Kind) (kind : ℕ) (strays : Strays) (goal : Goal) (ps : List Point) (few : length ps ≤ 256) (list before after : List ℕ) where
   pub found_written : (a : PricedPolygon) (r : Result Written Refusal) → BestFor goal (kind_table k) strays ps list (Ok a) → Recorded (kind_table k) kind ps (take a.vertices list) before after r

@@ -13,10 +13,10 @@ use Rattle.records.specs.declared.fault.Fault.{Fault}
 use Rattle.records.specs.declared.written.Written.{Written}
 use Rattle.search.specs.declared.by_price.PricedPolygon.{PricedPolygon}
 use Rattle.tracing.specs.Tracing.{chain_only}
-use Rattle.exchange.specs.Goals.{BestFor}
+use Rattle.closest.specs.Goals.{BestFor}
 use Rattle.exchange.specs.declared.failure.Failure.{Failure}
 use Rattle.exchange.specs.declared.failure.Failure.TheVariants.{Record as AtRecord, Refused as ByRefusal}
-use Rattle.exchange.specs.declared.order.Goal.{Goal}
+use Rattle.closest.specs.declared.goal.Goal.{Goal}
 
 -- The record of the polygon found has at most 743 bytes, and is written where the buffer has room for it, else 25 is answered; where none is found, the refusal of cheapest or closest is.
 abbrev pub FoundWritten : Table → ℕ → List Point → List ℕ → List ℕ → List ℕ → Result PricedPolygon Refusal → Result Written Refusal → Type 0

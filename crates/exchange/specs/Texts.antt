@@ -2,6 +2,7 @@
 use Rattle.std.specs.Prelude.{ℕ, List, [], ◌∷◌, ◌++◌, take, codes, decimal}
 use Rattle.outline.specs.declared.point.Point.{Point}
 use Rattle.outline.specs.Refusals.{number}
+use Rattle.outline.specs.declared.refusal.Refusal.{Refusal}
 use Rattle.records.specs.declared.fault.Fault.{Fault}
 use Rattle.records.specs.declared.fault.Fault.TheVariants.{Head, Code, End, List as Full}
 use Rattle.records.specs.Faults.{refusal_of, byte_of}
@@ -23,6 +24,11 @@ fault_text n (Head f) = codes "refused " ++ (decimal n ++ (codes " byte " ++ dec
 fault_text n (Code f edge bit) = codes "refused " ++ (decimal n ++ edge_text edge bit)
 fault_text n (End f edge bit) = codes "refused " ++ (decimal n ++ edge_text edge bit)
 fault_text n Full = number_text n
+
+-- The refusal by which is told why nothing is answered.
+abbrev pub failure_refusal : Failure → Refusal
+failure_refusal (Record f) = refusal_of f
+failure_refusal (Refused e) = e
 
 -- Why nothing is answered.
 abbrev pub failure_text : Failure → List ℕ

@@ -4,8 +4,8 @@ use Rattle.std.specs.Option.{option_map, option_zip}
 use Rattle.std.specs.Str.{all_ascii_digits, bytes_eq}
 use Rattle.measure.specs.declared.chosen.Chosen.{Chosen}
 use Rattle.measure.specs.declared.chosen.Chosen.TheVariants.{Line, Pace}
-use Rattle.exchange.specs.declared.order.Goal.{Goal}
-use Rattle.exchange.specs.declared.order.Goal.TheVariants.{Tolerance, Budget}
+use Rattle.closest.specs.declared.goal.Goal.{Goal}
+use Rattle.closest.specs.declared.goal.Goal.TheVariants.{Tolerance, Budget}
 use Rattle.exchange.specs.declared.order.Order.{Order}
 
 -- The number that decimal digits write after those of another.

@@ -8,9 +8,10 @@ ghost use Rattle.exchange.specs.Encoding.{BestWritten, Encoded};
 ghost use Rattle.exchange.specs.declared.failure.Failure.TheVariants.{Refused as ByRefusal};
 
 use super::failure::Failure;
-use super::finding::best_polygon;
-use super::order::Goal;
+use super::order::Order;
+use closest::{Goal, best_polygon};
 use coding::Kind;
+use graph::Row;
 use measure::Chosen;
 use outline::{Outline, Refusal};
 use records::{Written, write_kind};
@@ -29,26 +30,25 @@ fn write_best(
 ) -> Result<Written, Refusal>
     ensures { BestWritten (kind_table kind) (kind_number kind) (chosen_strays measure) goal (plain outline.now).points buffer.old buffer.new result }
 {
+    let mut rows = [Row::unreached(); 256];
     let mut list = [0; 256];
-    let found = best_polygon(outline, kind, measure, goal, &mut list)?;
-    let vertices = found.vertices;
-    write_kind(kind.number(), &kind, outline, &list[0..vertices], buffer)
+    let found = best_polygon(goal, outline, &kind, &measure, &mut rows, &mut list)?;
+    write_kind(
+        u16::from(kind),
+        &kind,
+        outline,
+        &list[..found.vertices],
+        buffer,
+    )
 }
 
-// Writes the record of the best polygon of a chain record's outline, by a kind's number.
-pub fn encode(
-    bytes: &[u8],
-    kind: u16,
-    measure: Chosen,
-    goal: Goal,
-    buffer: &mut [u8],
-) -> Result<Written, Failure>
-    ensures right { Encoded (all_kinds kind) kind (chosen_strays measure) goal bytes.now buffer.old buffer.new result }
+// Writes the record of the best polygon of a chain record's outline.
+pub fn encode(bytes: &[u8], order: Order, buffer: &mut [u8]) -> Result<Written, Failure>
+    ensures right { Encoded (all_kinds order.kind) order.kind (chosen_strays order.measure) order.goal bytes.now buffer.old buffer.new result }
     ensures within { IfOk result (λ w. w.bytes ≤ length buffer.old) }
     ensures ample { 743 ≤ length buffer.old → result ≢ Err (ByRefusal BufferShort) }
 {
-    let coder = Kind::from_number(kind)?;
+    let kind = Kind::try_from(order.kind)?;
     let outline = read_outline(bytes)?;
-    let written = write_best(&outline, coder, measure, goal, buffer)?;
-    Ok(written)
+    Ok(write_best(&outline, kind, order.measure, order.goal, buffer)?)
 }

@@ -5,15 +5,15 @@ mod decoded;
 mod decoding;
 mod encoding;
 mod failure;
-mod finding;
 mod order;
 mod shown;
 mod telling;
 mod words;
 
+pub use closest::Goal;
 pub use decoded::Decoded;
 pub use decoding::decode;
 pub use encoding::{MOST_BYTES, encode};
 pub use failure::Failure;
-pub use order::{Goal, Order};
+pub use order::Order;
 pub use telling::report;

@@ -1,18 +1,14 @@
 ghost use Rattle.std.specs.Prelude.{◌≡◌, ◌-◌, ◌^◌};
 ghost use Rattle.exchange.specs.Words.{measure_in, number_in, tolerance_in, budget_in, order_in};
 
-use super::order::{Goal, Order};
+use super::order::Order;
+use closest::Goal;
 use measure::Chosen;
 
-// The measure of a name.
 fn measure_named(word: &str) -> Option<Chosen>
     ensures { result ≡ measure_in word.now }
 {
-    match word {
-        "line" => Some(Chosen::Line),
-        "pace" => Some(Chosen::Pace),
-        _ => None,
-    }
+    word.parse().ok()
 }
 
 // The number that a word of decimal digits writes, or the largest of the type where it is past that.
@@ -39,19 +35,25 @@ fn short_number(word: &str) -> Option<u16>
     ensures { result ≡ number_in (2 ^ 16 - 1) word.now }
 {
     let number = long_number(word)?;
-    Some(number.min(65535) as u16)
+    Some(u16::try_from(number).unwrap_or(u16::MAX))
+}
+
+fn tolerance(top: &str, bottom: &str) -> Option<Goal>
+    ensures { result ≡ tolerance_in top.now bottom.now }
+{
+    let top = long_number(top)?;
+    let bottom = long_number(bottom)?;
+    Some(Goal::Tolerance { top, bottom })
 }
 
 impl Order {
-    // Cheapest within a tolerance.
-    pub fn within_tolerance(kind: &str, measure: &str, top: &str, bottom: &str) -> Option<Order>
-        ensures { result ≡ order_in kind.now measure.now (tolerance_in top.now bottom.now) }
+    // The order of the words of a kind and a measure, and of a goal, where there are all three.
+    fn of(kind: &str, measure: &str, goal: Option<Goal>) -> Option<Order>
+        ensures { result ≡ order_in kind.now measure.now goal }
     {
         let kind = short_number(kind)?;
         let measure = measure_named(measure)?;
-        let top = long_number(top)?;
-        let bottom = long_number(bottom)?;
-        let goal = Goal::Tolerance { top, bottom };
+        let goal = goal?;
         Some(Order {
             kind,
             measure,
@@ -59,17 +61,21 @@ impl Order {
         })
     }
 
+    // Cheapest within a tolerance.
+    pub fn within_tolerance(kind: &str, measure: &str, top: &str, bottom: &str) -> Option<Order>
+        ensures { result ≡ order_in kind.now measure.now (tolerance_in top.now bottom.now) }
+    {
+        Order::of(kind, measure, tolerance(top, bottom))
+    }
+
     // Closest within a budget of bits.
     pub fn within_budget(kind: &str, measure: &str, bits: &str) -> Option<Order>
         ensures { result ≡ order_in kind.now measure.now (budget_in bits.now) }
     {
-        let kind = short_number(kind)?;
-        let measure = measure_named(measure)?;
-        let goal = Goal::Budget(short_number(bits)?);
-        Some(Order {
+        Order::of(
             kind,
             measure,
-            goal,
-        })
+            short_number(bits).map(|bits| Goal::Budget(bits)),
+        )
     }
 }

@@ -12,9 +12,9 @@ use Rattle.records.specs.declared.fault.Fault.{Fault}
 use Rattle.records.specs.declared.reading.Reading.{Reading}
 use Rattle.records.specs.declared.written.Written.{Written}
 use Rattle.exchange.specs.Encoding.{Encoded}
+use Rattle.exchange.specs.Texts.{failure_refusal}
 use Rattle.exchange.specs.declared.failure.Failure.{Failure}
-use Rattle.exchange.specs.declared.failure.Failure.TheVariants.{Record, Refused}
-use Rattle.exchange.specs.declared.order.Goal.{Goal}
+use Rattle.closest.specs.declared.goal.Goal.{Goal}
 
 -- The measure that is asked for: pace, or else line.
 abbrev pub measure_by : Bool → Chosen
@@ -26,8 +26,7 @@ fault_number f = number (refusal_of f)
 
 -- The number of why nothing is answered.
 abbrev pub failure_number : Failure → ℕ
-failure_number (Record f) = fault_number f
-failure_number (Refused e) = number e
+failure_number f = number (failure_refusal f)
 
 -- What C is told: 0 where a call is accepted, and minus the refusal's number where it is refused.
 abbrev pub told : {X E : Type 0} → (E → ℕ) → Result X E → ℤ

@@ -1,22 +1,19 @@
-ghost use Rattle.std.specs.Prelude.{◌≡◌, pos, neg_ℤ};
-ghost use Rattle.firmware.specs.Told.{fault_number, failure_number};
+ghost use Rattle.std.specs.Prelude.{◌≡◌};
+ghost use Rattle.outline.specs.Refusals.{number};
+ghost use Rattle.firmware.specs.Told.{told, placed};
 
-use exchange::Failure;
-use records::Fault;
+use outline::Refusal;
 
-// What C is told at the fault of a record: minus the number of its refusal.
-pub(crate) fn fault_told(fault: Fault) -> i32
-    ensures { result ≡ neg_ℤ (pos (fault_number fault)) }
+// Tells C 0, and puts the answer in its place; or minus the number of the refusal.
+pub(crate) fn told<T: Copy>(answer: Result<T, Refusal>, place: &mut T) -> i32
+    ensures said { result ≡ told number answer }
+    ensures held { place.new ≡ placed place.old answer }
 {
-    -(fault.refusal().number() as i32)
-}
-
-// What C is told where nothing is answered: minus the number of the refusal.
-pub(crate) fn failure_told(failure: Failure) -> i32
-    ensures { result ≡ neg_ℤ (pos (failure_number failure)) }
-{
-    match failure {
-        Failure::Record(fault) => fault_told(fault),
-        Failure::Refused(refusal) => -(refusal.number() as i32),
+    match answer {
+        Ok(value) => {
+            *place = value;
+            0
+        }
+        Err(refusal) => -(refusal.number() as i32),
     }
 }

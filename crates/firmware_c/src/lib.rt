@@ -3,7 +3,7 @@
 
 ghost use Rattle.measure.specs.Choice.{chosen_strays};
 ghost use Rattle.records.specs.Reading.{all_kinds};
-ghost use Rattle.exchange.specs.declared.order.Goal.TheVariants.{Tolerance as ByTolerance, Budget as ByBudget};
+ghost use Rattle.closest.specs.declared.goal.Goal.TheVariants.{Tolerance as ByTolerance, Budget as ByBudget};
 ghost use Rattle.firmware.specs.Told.{measure_by, EncodeTold, ReadTold};
 
 use outline::Point;

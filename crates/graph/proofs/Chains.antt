@@ -1,8 +1,8 @@
 -- The list read back from a place of any rows.
-use Rattle.std.proofs.Common.{◌≡◌, ℕ, ◌+◌, ◌<◌, ◌≤◌, Bool, true, false, cond, ◌&&◌, ltb, ◌⊎◌, List, [], ◌∷◌, ◌++◌, length, get_or, take, drop, set, Some, None, Option, sym, refl, ap, ◌∙◌, subst, inl, inr, arith}
-use Rattle.std.proofs.iter.runs.Lists.{none-some, same_Some, slice_get_within}
+use Rattle.std.proofs.Common.{◌≡◌, ℕ, ◌+◌, ◌<◌, true, ◌&&◌, ltb, List, [], ◌∷◌, ◌++◌, length, get_or, take, drop, set, Some, None, Option, sym, refl, ap, ◌∙◌, subst, arith}
+use Rattle.std.proofs.lemmas.Option.{cond_some, none-some, slice_get_within}
 use Rattle.std.proofs.lemmas.List.{take_more, drop_more, drop-set, length-take-le, same_from_push}
-use Rattle.std.proofs.lemmas.Bool.{and_parts, and_from, and_left, and_right, ltb-true, lt-ltb, le-ltb, cond-true, cond-false}
+use Rattle.std.proofs.lemmas.Bool.{and_parts, and_from, ltb-true, lt-ltb, cond-true}
 use Rattle.std.specs.List.{slice_get}
 use Rattle.graph.proofs.Options.{same_value}
 use Rattle.graph.specs.Paths.{ReadBack, Rising}
@@ -14,21 +14,13 @@ use Rattle.graph.specs.declared.Row.{Row}
 -- the place before, where there is one
 previous_parts : {C : Type 0} (o : Option (Row C)) (j p : ℕ) → previous o j ≡ Some p → (row : Row C) × (o ≡ Some row) × (row.reached ≡ true) × (row.predecessor < j) × (row.predecessor ≡ p)
 previous_parts None j p h = absurd (none-some p h)
-previous_parts {C} (Some row) j p h = go (row.reached && ltb row.predecessor j) refl h
-  where
-    go : (b : Bool) → (row.reached && ltb row.predecessor j) ≡ b → cond b (Some row.predecessor) None ≡ Some p →
-        (x : Row C) × (Some row ≡ Some x) × (x.reached ≡ true) × (x.predecessor < j) × (x.predecessor ≡ p)
-    go false b e = absurd (none-some p e)
-    go true b e =
-        let tests = and_parts row.reached (ltb row.predecessor j) b in
-        (row, refl, tests.0, ltb-true row.predecessor j tests.1, same_Some row.predecessor p e)
+previous_parts (Some row) j p h =
+    let parts = cond_some (row.reached && ltb row.predecessor j) row.predecessor p h in
+    let tests = and_parts row.reached (ltb row.predecessor j) parts.0 in
+    (row, refl, tests.0, ltb-true row.predecessor j tests.1, parts.1)
 
 pub previous_made : {C : Type 0} (row : Row C) (j : ℕ) → row.reached ≡ true → row.predecessor < j → previous (Some row) j ≡ Some row.predecessor
 previous_made row j r l = cond-true _ _ _ (and_from row.reached (ltb row.predecessor j) r (lt-ltb _ _ l))
-
-pub previous_none : {C : Type 0} (row : Row C) (j : ℕ) → (row.reached ≡ false) ⊎ (j ≤ row.predecessor) → previous (Some row) j ≡ None
-previous_none row j (inl r) = cond-false _ _ _ (and_left row.reached (ltb row.predecessor j) r)
-previous_none row j (inr l) = cond-false _ _ _ (and_right row.reached (ltb row.predecessor j) (le-ltb _ _ l))
 
 pub previous_lower : {C : Type 0} (o : Option (Row C)) (j p : ℕ) → previous o j ≡ Some p → p < j
 previous_lower o j p h = let parts = previous_parts o j p h in let low = parts.3 in let same = parts.4 in omega arith

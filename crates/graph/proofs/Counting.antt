@@ -1,5 +1,7 @@
 -- Counting the places of a list from its end.
-use Rattle.std.proofs.Common.{◌≡◌, ℕ, ◌+◌, ◌<◌, ◌≤◌, true, List, [], ◌∷◌, ◌++◌, length, Some, None, sym, ap, ◌∙◌, subst, append_assoc, arith}
+use Rattle.std.proofs.Common.{◌≡◌, ℕ, ◌+◌, ◌<◌, ◌≤◌, Bool, true, false, List, [], ◌∷◌, ◌++◌, length, Some, None, MatchOption, sym, refl, ap, ◌∙◌, subst, append_assoc, arith}
+use Rattle.std.specs.Bool.{then_some}
+use Rattle.std.proofs.lemmas.Bool.{both_ways}
 use Rattle.std.specs.List.{slice_get}
 use Rattle.graph.proofs.Chains.{previous_lower, list_on, list_back, read_back_reached}
 use Rattle.graph.proofs.Options.{not_both, same_value}
@@ -33,12 +35,16 @@ module _ {C : Type 0} (rows : List (Row C)) (to : ℕ) where
     pub counted_stops : 0 < at → previous (slice_get rows at) at ≡ None → (vs : List ℕ) → ReadBack rows to vs → ⊥
     counted_stops l h vs b = let near = list_back l (so.4 vs b).1 in not_both (previous (slice_get rows at) at) near.0 h near.1
 
-    pub counted_all : (row : Row C) → at ≡ 0 → slice_get rows 0 ≡ Some row → row.reached ≡ true → (vs : List ℕ) × ReadBack rows to vs × (length vs ≡ count)
-    counted_all row e here r =
-        let long = so.1 in
-        (0 ∷ so.0, so.3 (0 ∷ []) (subst (λ j. ReadBack rows j (0 ∷ [])) (sym e) (first here r)), omega arith)
-
     pub counted_away : at ≡ 0 → ((row : Row C) → slice_get rows 0 ≡ Some row → row.reached ≡ true → ⊥) → (vs : List ℕ) → ReadBack rows to vs → ⊥
     counted_away e away vs b =
         let near = read_back_reached (so.4 vs b).1 in
         away near.0 (ap (slice_get rows) (sym e) ∙ near.1) near.2
+
+    -- at place 0 all are counted, where it is reached
+    pub counted_all : (row : Row C) → at ≡ 0 → slice_get rows 0 ≡ Some row →
+        MatchOption (then_some row.reached count) ((vs : List ℕ) → ReadBack rows to vs → ⊥) (λ n. (vs : List ℕ) × ReadBack rows to vs × (length vs ≡ n))
+    counted_all row e here = go row.reached refl
+      where
+        go : (b : Bool) → row.reached ≡ b → MatchOption (then_some b count) ((vs : List ℕ) → ReadBack rows to vs → ⊥) (λ n. (vs : List ℕ) × ReadBack rows to vs × (length vs ≡ n))
+        go true r = let long = so.1 in (0 ∷ so.0, so.3 (0 ∷ []) (subst (λ j. ReadBack rows j (0 ∷ [])) (sym e) (first here r)), omega arith)
+        go false r = counted_away e (λ x there reached. both_ways x.reached (ap (λ y. y.reached) (same_value (slice_get rows 0) x row there here) ∙ r) reached)

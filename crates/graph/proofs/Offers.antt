@@ -29,13 +29,6 @@ module _ {C W : Type 0} (k : CostOf C W) where
     offer_made w reached weight =
         ap (λ r. from_row k r (edge i j)) here ∙ ap (from_row k (Some row)) weight ∙ ap (λ b. cond b (Some (k.join row.cost w)) None) reached
 
-    -- the same of what a function answers
-    pub offered_some : (w : W) (c : C) → row.reached ≡ true → Some w ≡ edge i j → c ≡ k.join row.cost w → Some c ≡ offer k edge rows i j
-    offered_some w c reached weight joined = ap Some joined ∙ sym (offer_made w reached (sym weight))
-
-    pub offered_none : row.reached ≡ false → None ≡ offer k edge rows i j
-    offered_none away = sym (ap (λ r. from_row k r (edge i j)) here ∙ ap (λ b. cond b (through k row.cost (edge i j)) None) away)
-
   pub not_above_itself : Laws k → (c : C) → Within k 255 c → k.above c c ≡ false
   not_above_itself laws c u = elim (cases_Bool (k.above c c)) [ inl e ↦ laws.compares c c u u e | inr e ↦ e ]
 

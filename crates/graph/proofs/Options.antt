@@ -1,6 +1,6 @@
 -- What an `Option` and a list's places tell.
-use Rattle.std.proofs.Common.{◌≡◌, ℕ, zero, suc, ◌<◌, List, [], ◌∷◌, length, get_or, take, Some, None, Option, sym, refl, ap, ◌∙◌, arith}
-use Rattle.std.proofs.iter.runs.Lists.{none-some, same_Some, nth_read}
+use Rattle.std.proofs.Common.{◌≡◌, ℕ, zero, suc, ◌<◌, List, [], ◌∷◌, length, take, Some, None, Option, sym, refl, ap, ◌∙◌, arith}
+use Rattle.std.proofs.iter.runs.Lists.{none-some, same_Some}
 use Rattle.std.specs.List.{slice_get}
 
 module _ {A : Type 0} where
@@ -26,7 +26,3 @@ module _ {A : Type 0} where
   nth_take (suc n) [] i l = refl
   nth_take (suc n) (x ∷ xs) zero l = refl
   nth_take (suc n) (x ∷ xs) (suc i) l = nth_take n xs i (omega arith)
-
-  -- what a read gives
-  pub nth_is : (xs : List A) (i : ℕ) (x : A) → i < length xs → x ≡ get_or xs i x → slice_get xs i ≡ Some x
-  nth_is xs i x l e = nth_read xs i x l ∙ ap Some (sym e)

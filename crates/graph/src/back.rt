@@ -10,16 +10,9 @@ use crate::Row;
 fn before<C: Copy>(rows: &[Row<C>], at: usize) -> Option<usize>
     ensures { result ≡ previous (slice_get rows.now at) at }
 {
-    if at >= rows.len() {
-        return None;
-    }
-    let row = rows[at];
+    let row = rows.get(at)?;
     let lower = usize::from(row.predecessor);
-    if row.reached && lower < at {
-        Some(lower)
-    } else {
-        None
-    }
+    (row.reached && lower < at).then_some(lower)
 }
 
 // How many places the list read back from a place has.
@@ -30,17 +23,11 @@ fn list_length<C: Copy>(rows: &[Row<C>], to: usize) -> Option<usize>
     let mut at = to;
     let mut count: usize = 1;
     while at > 0 {
-        let Some(lower) = before(rows, at) else {
-            return None;
-        };
-        at = lower;
+        at = before(rows, at)?;
         count += 1;
     }
-    if rows.is_empty() {
-        return None;
-    }
-    let start = rows[0];
-    if start.reached { Some(count) } else { None }
+    let start = rows.first()?;
+    start.reached.then_some(count)
 }
 
 // Writes the list from its end, with a place for each of its numbers.

@@ -2,11 +2,11 @@
 #![tactic(auto)]
 
 ghost use Rattle.std.specs.Prelude.{◌≡◌, ℕ, ◌^◌, ◌≤◌, Option};
-ghost use Rattle.graph.specs.Rows.{Shallow};
+ghost use Rattle.graph.specs.Rows.{Shallow, unreached_row};
 
 pub use back::read_back;
 use cost::Cost;
-pub use search::fill;
+pub use search::{TooFewRows, fill};
 
 mod back;
 mod search;
@@ -22,6 +22,19 @@ pub struct Row<C> {
     pub predecessor: u16,
 }
 
+impl<C: Cost> Row<C> {
+    // The row of a place that no path ends at: what rows may hold before a search.
+    pub fn unreached() -> Row<C>
+        ensures { result ≡ unreached_row C.Cost.cost }
+    {
+        Row {
+            reached: false,
+            cost: C::start(),
+            predecessor: 0,
+        }
+    }
+}
+
 // Numbered places, and the weights of the edges between them.
 pub trait Graph {
     type Weight: Copy;
@@ -35,12 +48,13 @@ pub trait Graph {
     // The most edges that lead to a place.
     ghost depth: { Self → ℕ → ℕ };
 
-    // What holds of every graph is promised with the number, so that a graph may hold references.
     fn places(&self) -> usize
-        ensures number { result ≡ places self.now }
-        ensures few { places self.now ≤ 2 ^ 16 }
-        ensures shallow { Shallow (places self.now) (edge self.now) (depth self.now) };
+        ensures { result ≡ places self.now };
 
     fn edge(&self, from: usize, to: usize) -> Option<Self::Weight>
         ensures { result ≡ edge self.now from to };
+
+    ghost few: { (g : Self) → places g ≤ 2 ^ 16 };
+
+    ghost shallow: { (g : Self) → Shallow (places g) (edge g) (depth g) };
 }

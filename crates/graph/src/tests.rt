@@ -1,5 +1,6 @@
 // Four places whose weights are written out.
 ghost use Rattle.std.specs.Prelude.{◌+◌, ◌*◌, ◌&&◌, if◌then◌else◌, None, nat_lt, slice_index_or};
+ghost use Rattle.std.proofs.Common.{rules};
 
 use crate::{Graph, Row, fill, read_back};
 use cost::bits::Bits;
@@ -32,6 +33,10 @@ impl Graph for Four {
             None
         }
     }
+
+    ghost few = { λ g. Prim.search rules };
+
+    ghost shallow = { λ g. Prim.search rules };
 }
 
 const JUNK: Row<Bits> = Row {
@@ -54,7 +59,7 @@ fn diamond() -> Four {
 #[test]
 fn lowest_of_equals(rt: HostRuntime) {
     let mut rows = [JUNK; 5];
-    assert!(rt; fill(&diamond(), &mut rows));
+    assert!(rt; fill(&diamond(), &mut rows).is_ok());
     assert_eq!(rt; rows[3].cost.count, 5);
     assert_eq!(rt; rows[3].predecessor, 1);
     assert_eq!(rt; rows[4].cost.count, 9);
@@ -69,7 +74,7 @@ fn unreached(rt: HostRuntime) {
     let mut graph = diamond();
     graph.weights[1] = None;
     let mut rows = [JUNK; 4];
-    assert!(rt; fill(&graph, &mut rows));
+    assert!(rt; fill(&graph, &mut rows).is_ok());
     assert!(rt; !rows[1].reached);
     assert_eq!(rt; rows[3].predecessor, 2);
     let mut list = [8; 2];

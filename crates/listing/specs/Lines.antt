@@ -11,8 +11,6 @@ use Rattle.records.specs.declared.fault.Fault.TheVariants.{Head, Code, End, List
 use Rattle.records.specs.declared.fault.HeadFault.{HeadFault}
 use Rattle.records.specs.declared.fault.HeadFault.TheVariants.{Short, Kind as KindUnknown, Column, Row}
 use Rattle.search.specs.declared.by_price.PricedPolygon.{PricedPolygon}
-use Rattle.listing.specs.declared.line.Line.{Line}
-use Rattle.listing.specs.declared.line.Line.TheVariants.{Polygon, Refused}
 use Rattle.listing.specs.declared.line.Numbers.{Numbers}
 
 -- A line ends in a line feed.
@@ -55,6 +53,6 @@ record_line (End f edge bit) = ended (codes "record refused 10")
 record_line Full = ended (codes "record refused 23")
 
 -- The line of a kind: the polygon that cheapest answers, or that it is refused.
-abbrev pub kind_line : Kind → Result PricedPolygon Refusal → Line
-kind_line k (Ok a) = Polygon (record { kind = kind_number k; bits = a.bits; vertices = a.vertices; top = a.deviation.top; bottom = a.deviation.bottom })
-kind_line k (Err e) = Refused k
+abbrev pub kind_line : Kind → Result PricedPolygon Refusal → Result Numbers Kind
+kind_line k (Ok a) = Ok (record { kind = kind_number k; bits = a.bits; vertices = a.vertices; top = a.deviation.top; bottom = a.deviation.bottom })
+kind_line k (Err e) = Err k

@@ -6,7 +6,7 @@ mod lines;
 mod shown;
 
 pub use line::{Line, Numbers};
-pub use lines::{Listing, list_record};
+pub use lines::list_record;
 pub use shown::{header, kind_refused, record_refused};
 
 #[cfg(test)]

@@ -10,9 +10,5 @@ pub struct Numbers {
     pub bottom: u32,
 }
 
-// The line of a kind: its polygon's numbers, or that the kind is refused by 26.
-#[derive(Clone, Copy)]
-pub enum Line {
-    Polygon(Numbers),
-    Refused(Kind),
-}
+// The line of a kind: its polygon's numbers, or the kind that is refused by 26.
+pub type Line = Result<Numbers, Kind>;

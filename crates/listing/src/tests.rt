@@ -1,20 +1,20 @@
 use super::line::Line;
-use super::lines::{Listing, list_record};
+use super::lines::list_record;
 use super::shown::{header, kind_refused, record_refused};
 use std::test::Fail;
 
 // What the program writes of a line, where that is a fixed text.
 fn fixed(line: Line) -> &'static [u8] {
     match line {
-        Line::Polygon(_) => b"a polygon",
-        Line::Refused(kind) => kind_refused(kind),
+        Ok(_) => b"a polygon",
+        Err(kind) => kind_refused(kind),
     }
 }
 
 fn refusal(bytes: &[u8]) -> &'static [u8] {
     match list_record(bytes) {
-        Listing::Faulty(fault) => record_refused(fault),
-        Listing::Kinds(_) => b"listed",
+        Ok(_) => b"listed",
+        Err(fault) => record_refused(fault),
     }
 }
 
@@ -22,12 +22,12 @@ fn refusal(bytes: &[u8]) -> &'static [u8] {
 fn a_diagonal_step_has_no_axis_code(rt: HostRuntime) -> Result<(), Fail> {
     // From (5, 5) by direction 7.
     match list_record(&[8, 0, 4, 0, 5, 0, 5, 0, 1, 0xe0]) {
-        Listing::Kinds(lines) => {
+        Ok(lines) => {
             assert!(rt; fixed(lines[2]) == b"3 refused 26\n".as_slice());
             assert!(rt; fixed(lines[3]) == b"a polygon".as_slice());
             Ok(())
         }
-        Listing::Faulty(_) => Err(Fail::new("refused")),
+        Err(_) => Err(Fail::new("refused")),
     }
 }
 

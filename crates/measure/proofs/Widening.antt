@@ -1,6 +1,5 @@
 -- The widest of fractions, one point further.
-use Rattle.std.proofs.Common.{◌≡◌, ℕ, zero, suc, ◌+◌, ◌-◌, ◌*◌, ◌<◌, ◌≤◌, true, false, cond, not, ◌&&◌, ltb, List, ◌∷◌, length, get_or, drop, Some, None, fold, Option, sym, refl, ap, ◌∙◌, subst, ⊎_elim, zero-mul, arith}
-use Rattle.std.proofs.lemmas.List.{drop_more, drop_all}
+use Rattle.std.proofs.Common.{◌≡◌, ℕ, zero, suc, ◌+◌, ◌-◌, ◌*◌, ◌<◌, ◌≤◌, true, false, cond, not, ◌&&◌, ltb, List, ◌∷◌, Some, None, fold, Option, sym, refl, ap, ◌∙◌, subst, ⊎_elim, zero-mul, arith}
 use Rattle.std.proofs.lemmas.Bool.{cases_Bool, cases_lt, both_ways, lt-ltb, le-ltb, and_from, not_from_true, not_from_false, cond_both, cond-true, cond-false}
 use Rattle.outline.specs.Polygon.{edges}
 use Rattle.measure.specs.declared.fraction.Fraction.{Fraction}
@@ -27,11 +26,6 @@ wider_grows a b = cond_both (above b a) b a (λ x. above a x ≡ false) (above_o
 
 pub wider_covers : (a b : Fraction) → above b (wider a b) ≡ false
 wider_covers a b = cond_both (above b a) b a (λ x. above b x ≡ false) (λ _. not_above_itself b) (λ e. e)
-
--- widening by one fraction keeps the order
-pub wider_keeps : (a b w : Fraction) → above a b ≡ false → above (wider a w) (wider b w) ≡ false
-wider_keeps a b w h =
-    cond_both (above w a) w a (λ x. above x (wider b w) ≡ false) (λ _. wider_covers b w) (λ _. not_above_through a b (wider b w) h (wider_grows b w))
 
 pub widened_grows : (a : Fraction) (b : Option Fraction) → above a (widened a b) ≡ false
 widened_grows a (Some b) = wider_grows a b
@@ -80,14 +74,3 @@ module _ (strays : ℕ → ℕ → ℕ → Option Fraction) (n i j : ℕ) (rises
 -- what a polygon's deviation comes to from a vertex on, where it is a so far
 abbrev pub onward : (ℕ → ℕ → Option Fraction) → Fraction → ℕ → List ℕ → Fraction
 onward of_edge a i vs = fold (λ old e. widened old (of_edge e.0 e.1)) a (edges (i ∷ vs))
-
--- a turn of the loop: s is what edge i, j gives, and b the widest with it
-pub polygon_more : (of_edge : ℕ → ℕ → Option Fraction) (vs : List ℕ) (k i j : ℕ) (a b whole : Fraction) (s : Option Fraction) → k < length vs → j ≡ get_or vs k 0 → s ≡ of_edge i j → b ≡ widened a s
-    → onward of_edge a i (drop k vs) ≡ whole → onward of_edge b j (drop (k + 1) vs) ≡ whole
-polygon_more of_edge vs k i j a b whole s l at here next e =
-    let rest = drop (k + 1) vs in
-    let left : drop k vs ≡ j ∷ rest = drop_more vs k 0 l ∙ ap (λ x. x ∷ rest) (sym at) in
-    ap (λ x. onward of_edge x j rest) (next ∙ ap (widened a) here) ∙ ap (onward of_edge a i) (sym left) ∙ e
-
-pub polygon_all : (of_edge : ℕ → ℕ → Option Fraction) (vs : List ℕ) (k i : ℕ) (a whole : Fraction) → length vs ≤ k → onward of_edge a i (drop k vs) ≡ whole → a ≡ whole
-polygon_all of_edge vs k i a whole l e = ap (onward of_edge a i) (sym (drop_all k vs l)) ∙ e

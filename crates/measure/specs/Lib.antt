@@ -5,6 +5,8 @@ pub mod Distances
 pub mod Fractions
 pub mod Measures
 pub mod Order
+pub mod Texts
+pub mod Waypoints
 pub mod Widest
 pub mod Lawful
 pub mod Bounds

@@ -7,20 +7,14 @@ ghost use Rattle.outline.specs.declared.refusal.Refusal.TheVariants.{NoPolygon};
 
 use super::fraction::Fraction;
 use super::meter::Measure;
+use super::tolerance::deviation_within;
 use outline::{Outline, Refusal};
 
 // The deviation of edge i, j.
 pub fn deviation<M: Measure>(measure: &M, outline: &Outline, i: usize, j: usize) -> Option<Fraction>
     ensures { result ≡ edge_deviation (M.Measure.strays measure.now) (plain outline.now).points i j }
 {
-    if i >= j || j >= outline.len() {
-        return None;
-    }
-    let mut widest = Fraction::zero();
-    for k in i + 1..j {
-        widest = widest.widened(measure.strays(outline, i, k, j));
-    }
-    Some(widest)
+    deviation_within(measure, outline, i, j, Fraction::largest())
 }
 
 // The deviation of a polygon of the outline.
@@ -46,15 +40,11 @@ pub fn polygon_deviation<M: Measure>(
 }
 
 // The deviation of an edge is 0/1 or a fraction of one of its points, and none of them is above it.
-pub fn deviation_is_widest() -> u8
+pub fn deviation_is_widest()
     ensures { DeviationIsWidest }
-{
-    0
-}
+{}
 
 // The deviation of a polygon is 0/1 or the deviation of one of its edges, and none of them is above it.
-pub fn polygon_is_widest() -> u8
+pub fn polygon_is_widest()
     ensures { PolygonIsWidest }
-{
-    0
-}
+{}

@@ -1,9 +1,11 @@
 ghost use Rattle.std.specs.Prelude.{◌≡◌, ◌^◌, ◌<◌, ◌≤◌, Some};
 ghost use Rattle.measure.specs.Fractions.{fraction, taken, zero as zero_of, largest as largest_of, above, wider as wider_of, widened as widened_by};
 ghost use Rattle.measure.specs.Order.{TotalOrder};
+ghost use Rattle.measure.specs.Texts.{fraction_text};
 
 use super::fraction::Fraction;
 use outline::Refusal;
+use std::fmt;
 
 impl Fraction {
     // The fraction of two numbers, where they are in bounds.
@@ -71,16 +73,19 @@ impl Fraction {
     pub fn widened(self, new: Option<Fraction>) -> Fraction
         ensures { result ≡ widened_by self new }
     {
-        match new {
-            Some(f) => self.wider(f),
-            None => self,
-        }
+        new.map_or(self, |f| self.wider(f))
     }
 
     // Comparing by cross products is a total order of the values.
-    pub fn order_is_total() -> u8
+    pub fn order_is_total()
         ensures { TotalOrder }
-    {
-        0
+    {}
+}
+
+impl fmt::Display for Fraction {
+    ghost output = { λ f. Some (fraction_text f) };
+
+    fn fmt<W: fmt::Write>(&self, f: &mut fmt::Formatter<W>) -> fmt::Result {
+        write!(f, "{}/{}", self.top, self.bottom)
     }
 }

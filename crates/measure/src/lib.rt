@@ -12,8 +12,10 @@ mod pace;
 #[cfg(test)]
 mod tests;
 mod tolerance;
+mod waypoint;
+mod waypoints;
 
-pub use chosen::Chosen;
+pub use chosen::{Chosen, UnknownMeasure};
 pub use deviations::{deviation, deviation_is_widest, polygon_deviation, polygon_is_widest};
 pub use fraction::Fraction;
 pub use line::Line;

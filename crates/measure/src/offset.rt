@@ -1,23 +1,7 @@
 ghost use Rattle.std.specs.Prelude.{◌≡◌, ◌^◌, ◌≤◌, ◌-ℤ◌, ◌*ℤ◌, unsigned_abs};
-ghost use Rattle.measure.specs.Distances.{coincide as coincide_of, cols, rows, square as square_of, squared_length};
+ghost use Rattle.measure.specs.Distances.{cols, rows, square as square_of, squared_length};
 
 use outline::Point;
-
-// How far one point lies to the right of another and below it.
-pub(crate) fn offset(from: Point, to: Point) -> (i32, i32)
-    ensures { (result.0 ≡ cols from to) × (result.1 ≡ rows from to) }
-{
-    (
-        to.col as i32 - from.col as i32,
-        to.row as i32 - from.row as i32,
-    )
-}
-
-pub(crate) fn coincide(u: Point, v: Point) -> bool
-    ensures { result ≡ coincide_of u v }
-{
-    u.col == v.col && u.row == v.row
-}
 
 pub(crate) fn square(x: i32) -> u64
     ensures value { result ≡ square_of x }
@@ -38,7 +22,7 @@ pub(crate) fn square_length(x: i32, y: i32) -> u64
 pub(crate) fn square_distance(u: Point, v: Point) -> u64
     ensures { result ≡ squared_length (cols u v) (rows u v) }
 {
-    let (right, down) = offset(u, v);
+    let (right, down) = u.offset(v);
     square_length(right, down)
 }
 

@@ -1,37 +1,38 @@
-ghost use Rattle.std.specs.Prelude.{◌≡◌, ◌≤◌, Some};
-ghost use Rattle.measure.specs.Close.{Close};
+ghost use Rattle.std.specs.Prelude.{◌≡◌, Some};
 ghost use Rattle.measure.specs.Distances.{pace as pace_of, pace_from, squared_lag};
 ghost use Rattle.measure.specs.Lawful.{pace_answers};
 ghost use Rattle.std.proofs.Common.{rules};
 
 use super::fraction::Fraction;
 use super::meter::Measure;
-use super::offset::{offset, products_apart, square_length};
-use outline::{Outline, Point};
+use super::offset::{products_apart, square_length};
+use super::waypoint::Waypoint;
+use outline::Outline;
 
 // Strays by the distance to the place that an even pace along the edge has reached by then.
 #[derive(Clone, Copy)]
 pub struct Pace;
 
-// The square of n(p - u) - m(v - u).
-fn square_lag(n: u32, m: u32, u: Point, v: Point, p: Point) -> u64
-    requires { (n ≤ 255) × ((m ≤ 255) × ((Close u v) × (Close u p))) }
-    ensures { result ≡ squared_lag n m u v p }
-{
-    let (v_right, v_down) = offset(u, v);
-    let (p_right, p_down) = offset(u, p);
-    square_length(
-        products_apart(n as i32, p_right, m as i32, v_right),
-        products_apart(n as i32, p_down, m as i32, v_down),
-    )
-}
+impl Waypoint {
+    // The square of n(p - u) - m(v - u), for ends u and v, n moves from one to the other, and m of them to a point p.
+    fn square_lag(self) -> u64
+        ensures { result ≡ squared_lag self.moves self.made self.from self.to self.at }
+    {
+        let (n, m) = (self.moves as i32, self.made as i32);
+        let (v_right, v_down) = self.from.offset(self.to);
+        let (p_right, p_down) = self.from.offset(self.at);
+        square_length(
+            products_apart(n, p_right, m, v_right),
+            products_apart(n, p_down, m, v_down),
+        )
+    }
 
-// How far p strays from the place m of n parts along the way from u to v.
-fn pace_from(n: u32, m: u32, u: Point, v: Point, p: Point) -> Fraction
-    requires { (1 ≤ n) × ((n ≤ 255) × ((m ≤ 255) × ((Close u v) × (Close u p)))) }
-    ensures { Some result ≡ pace_from n m u v p }
-{
-    Fraction::of(square_lag(n, m, u, v, p), n * n)
+    // How far the point strays from the place that as many moves of an even pace lead to.
+    fn off_pace(self) -> Fraction
+        ensures { Some result ≡ pace_from self.moves self.made self.from self.to self.at }
+    {
+        Fraction::of(self.square_lag(), self.moves * self.moves)
+    }
 }
 
 impl Measure for Pace {
@@ -42,16 +43,6 @@ impl Measure for Pace {
     ghost none = { Prim.search rules };
 
     fn strays(&self, outline: &Outline, i: usize, k: usize, j: usize) -> Option<Fraction> {
-        let points = outline.points();
-        if i >= k || k >= j || j >= points.len() {
-            return None;
-        }
-        Some(pace_from(
-            (j - i) as u32,
-            (k - i) as u32,
-            points[i],
-            points[j],
-            points[k],
-        ))
+        Some(Waypoint::new(outline, i, k, j)?.off_pace())
     }
 }

@@ -1,3 +1,4 @@
+use super::chosen::{Chosen, UnknownMeasure};
 use super::deviations::{deviation, polygon_deviation};
 use super::fraction::Fraction;
 use super::line::Line;
@@ -20,18 +21,12 @@ fn two_legs(first: u8, moves: usize, then: u8, more: usize) -> Result<Outline, R
 }
 
 fn is(f: Option<Fraction>, top: u64, bottom: u32) -> bool {
-    match f {
-        Some(f) => f.top() == top && f.bottom() == bottom,
-        None => false,
-    }
+    f.is_some_and(|f| f.top() == top && f.bottom() == bottom)
 }
 
 // The number of the refusal, or 0.
 fn number(r: Result<Fraction, Refusal>) -> u8 {
-    match r {
-        Ok(_) => 0,
-        Err(e) => e.number(),
-    }
+    r.map_or_else(|refusal| refusal.number(), |_| 0)
 }
 
 #[test]
@@ -108,4 +103,14 @@ fn bounds(rt: HostRuntime) {
     assert!(rt; number(Fraction::new(1 << 40, 1)) == 4);
     assert!(rt; number(Fraction::new(0, 0)) == 4);
     assert!(rt; number(Fraction::new(0, (1 << 20) + 1)) == 4);
+}
+
+#[test]
+fn texts(rt: HostRuntime) -> Result<(), Fail> {
+    let alloc = rt.alloc();
+    let text = format!(in alloc; "{} {}", Fraction::new(16, 8)?, Chosen::Pace)?;
+    assert_eq!(rt; text.as_str(), "16/8 pace");
+    assert_eq!(rt; "line".parse::<Chosen>(), Ok(Chosen::Line));
+    assert_eq!(rt; "lines".parse::<Chosen>(), Err(UnknownMeasure));
+    Ok(())
 }

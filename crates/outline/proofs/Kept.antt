@@ -4,6 +4,9 @@ use Rattle.std.proofs.lemmas.List.{get_or-take, get_or_append_left, get_or_push,
 use Rattle.std.proofs.lemmas.Bool.{cases_Bool, ltb-true, cases_lt}
 use Rattle.outline.specs.declared.outline.Outline.{Outline}
 use Rattle.outline.specs.declared.point.Point.{Point}
+use Rattle.outline.specs.declared.direction.Direction.{Direction}
+use Rattle.outline.specs.declared.direction.Direction.TheVariants.{East, Northeast, North, Northwest, West, Southwest, South, Southeast}
+use Rattle.outline.specs.Directions.{direction_number}
 use Rattle.outline.specs.Held.{origin, Framed, Follows, Traced}
 use Rattle.outline.specs.Moves.{within, both, displaced, moved}
 use Rattle.outline.specs.Plain.{plain}
@@ -11,6 +14,18 @@ use Rattle.outline.specs.Rules.{Rules}
 
 none-some : {X : Type 0} {P : Type 0} (x : X) → None ≡ Some x → P
 none-some x e = let z : ◌≡◌ {A = ℕ} 0 1 = cc in absurd (omega arith)
+
+pub number_small : (d : Direction) → direction_number d < 8
+number_small d = elim d as (λ x. direction_number x < 8) [
+  | East ↦ omega arith
+  | Northeast ↦ omega arith
+  | North ↦ omega arith
+  | Northwest ↦ omega arith
+  | West ↦ omega arith
+  | Southwest ↦ omega arith
+  | South ↦ omega arith
+  | Southeast ↦ omega arith
+]
 
 pub within_below : (end : ℕ) (z : ℤ) (x : ℕ) → within end z ≡ Some x → x < end
 within_below end (pos y) x e =

@@ -1,4 +1,4 @@
 pub mod Apart
-pub mod Fronts
 pub mod Kept
+pub mod Rising
 pub mod Steps

@@ -1,6 +1,6 @@
 -- A run of calls, one call further.
-use Rattle.std.proofs.Common.{◌≡◌, ℕ, suc, ◌+◌, ◌<◌, ◌≤◌, ◌⊎◌, List, [], ◌∷◌, ◌++◌, length, get_or, take, drop, set, Result, sym, refl, ap, ◌∙◌, ⊎_elim, append_assoc, arith}
-use Rattle.std.proofs.lemmas.List.{take_more, drop_more, set_at, take_all, drop_all, length-take-le}
+use Rattle.std.proofs.Common.{◌≡◌, ℕ, suc, ◌+◌, ◌<◌, List, [], ◌∷◌, ◌++◌, length, get_or, take, drop, set, Result, sym, refl, ap, ◌∙◌, append_assoc, arith}
+use Rattle.std.proofs.lemmas.List.{take_more, drop_more, set_at, length-take-le}
 use Rattle.outline.specs.declared.call.Call.{Call}
 use Rattle.outline.specs.declared.refusal.Refusal.{Refusal}
 use Rattle.outline.specs.Plain.{Plain, answer, left_by}
@@ -39,12 +39,3 @@ module _ (p : Plain) (cs : List Call) (old : Answers) (i : ℕ) (d : Call) (l : 
       ∙ ap (λ y. answers p (take i cs) ++ y ∷ drop (i + 1) old) here
       ∙ sym (append_assoc (answers p (take i cs)) (answer (made (after p (take i cs)) (get_or cs i d)) ∷ []) (drop (i + 1) old))
       ∙ ap (λ ys. ys ++ drop (i + 1) old) (sym (answers_push p (take i cs) (get_or cs i d)) ∙ ap (answers p) (sym more))
-
--- the loop ends at the last call or at the last place for an answer
-pub ended : (p : Plain) (cs : List Call) (old : Answers) (i : ℕ) (q : Plain) (rs : Answers) → i ≤ length old → (length cs ≤ i) ⊎ (length old ≤ i) → i ≤ length cs
-    → q ≡ after p (take i cs) → rs ≡ answers p (take i cs) ++ drop i old
-    → (q ≡ after p (take (length old) cs)) × (rs ≡ answers p (take (length old) cs) ++ drop (length cs) old)
-ended p cs old i q rs l end within e f =
-    let same : take i cs ≡ take (length old) cs = ⊎_elim (λ m. take_all i cs m ∙ sym (take_all (length old) cs (omega arith))) (λ m. ap (λ n. take n cs) (omega arith)) end in
-    let rest : drop i old ≡ drop (length cs) old = ⊎_elim (λ m. ap (λ n. drop n old) (omega arith)) (λ m. drop_all i old m ∙ sym (drop_all (length cs) old (omega arith))) end in
-    (e ∙ ap (after p) same, f ∙ ap (λ xs. answers p xs ++ drop i old) same ∙ ap (λ d. answers p (take (length old) cs) ++ d) rest)

@@ -1,4 +1,5 @@
 pub mod Between
+pub mod Directions
 pub mod Held
 pub mod Moves
 pub mod Plain

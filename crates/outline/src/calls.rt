@@ -2,13 +2,14 @@ ghost use Rattle.std.specs.Prelude.{◌≡◌, length};
 ghost use Rattle.outline.specs.Plain.{plain, new_plain, opened, extended, retracted, answer, left_by};
 ghost use Rattle.std.specs.List.{slice_get};
 
+use super::direction::Direction;
 use super::outline::Outline;
 use super::point::Point;
 use super::points::{Points, ROOM};
 use super::refusal::Refusal;
 
-// The longest side of a frame.
-const SIDE: u16 = 1024;
+// The longest side of a frame, in pels.
+pub const LONGEST_SIDE: u16 = 1024;
 
 impl Outline {
     // One point in a 1 by 1 frame.
@@ -27,7 +28,7 @@ impl Outline {
         ensures said { result ≡ answer (opened width height col row) }
         ensures after { plain self.new ≡ left_by (plain self.old) (opened width height col row) }
     {
-        if width == 0 || width > SIDE || height == 0 || height > SIDE {
+        if width == 0 || width > LONGEST_SIDE || height == 0 || height > LONGEST_SIDE {
             return Err(Refusal::FrameSize);
         }
         if col >= width || row >= height {
@@ -46,16 +47,14 @@ impl Outline {
         ensures said { result ≡ answer (extended (plain self.old) direction) }
         ensures after { plain self.new ≡ left_by (plain self.old) (extended (plain self.old) direction) }
     {
-        if direction > 7 {
-            return Err(Refusal::Direction);
-        }
+        let direction = Direction::try_from(direction)?;
         if self.points.len() >= ROOM {
             return Err(Refusal::Full);
         }
         let last = self.points.last();
-        let Some(next) = last.moved(direction, self.width, self.height) else {
-            return Err(Refusal::LeavesFrame);
-        };
+        let next = last
+            .moved(direction, self.width, self.height)
+            .ok_or(Refusal::LeavesFrame)?;
         self.points.push(next);
         Ok(())
     }

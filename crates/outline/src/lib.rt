@@ -3,6 +3,7 @@
 
 mod call;
 mod calls;
+mod direction;
 mod moves;
 mod outline;
 mod point;
@@ -13,6 +14,8 @@ mod runs;
 mod table;
 
 pub use call::Call;
+pub use calls::LONGEST_SIDE;
+pub use direction::Direction;
 pub use moves::MOVES;
 pub use outline::Outline;
 pub use point::Point;

@@ -8,12 +8,7 @@ use super::outline::Outline;
 fn rises(list: &[u16]) -> bool
     ensures { Decides result ((k : ℕ) → suc k < length list.now → slice_index list.now k < slice_index list.now (suc k)) }
 {
-    for k in 1..list.len() {
-        if list[k - 1] >= list[k] {
-            return false;
-        }
-    }
-    true
+    list.is_sorted_by(|vertex, next| vertex < next)
 }
 
 impl Outline {
@@ -21,10 +16,7 @@ impl Outline {
     pub fn is_polygon(&self, list: &[u16]) -> bool
         ensures { Decides result (Polygon (length (plain self.now).points) list.now) }
     {
-        let n = list.len();
-        if n == 0 || list[0] != 0 {
-            return false;
-        }
-        list[n - 1] as usize + 1 == self.len() && rises(list)
+        let ends = |last: &u16| *last as usize + 1 == self.len();
+        list.first() == Some(&0) && list.last().is_some_and(ends) && rises(list)
     }
 }

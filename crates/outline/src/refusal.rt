@@ -4,51 +4,31 @@ ghost use Rattle.outline.specs.Refusals.{number as number_of};
 // Why a call is refused. The numbers 1 to 10 are for the input, 20 to 28 for the state.
 #[derive(Clone, Copy, PartialEq, Eq, Debug)]
 pub enum Refusal {
-    FrameSize,
-    StartOutside,
-    Direction,
-    Tolerance,
-    NoPolygon,
-    Short,
-    Kind,
-    PointOutside,
-    NoCode,
-    Trailing,
-    LeavesFrame,
-    Full,
-    OnlyStart,
-    ListShort,
-    RowsShort,
-    BufferShort,
-    NoUsable,
-    OverBudget,
-    EdgeNoCode,
+    FrameSize = 1,
+    StartOutside = 2,
+    Direction = 3,
+    Tolerance = 4,
+    NoPolygon = 5,
+    Short = 6,
+    Kind = 7,
+    PointOutside = 8,
+    NoCode = 9,
+    Trailing = 10,
+    LeavesFrame = 20,
+    Full = 21,
+    OnlyStart = 22,
+    ListShort = 23,
+    RowsShort = 24,
+    BufferShort = 25,
+    NoUsable = 26,
+    OverBudget = 27,
+    EdgeNoCode = 28,
 }
 
 impl Refusal {
     pub fn number(self) -> u8
         ensures { result ≡ number_of self }
     {
-        match self {
-            Refusal::FrameSize => 1,
-            Refusal::StartOutside => 2,
-            Refusal::Direction => 3,
-            Refusal::Tolerance => 4,
-            Refusal::NoPolygon => 5,
-            Refusal::Short => 6,
-            Refusal::Kind => 7,
-            Refusal::PointOutside => 8,
-            Refusal::NoCode => 9,
-            Refusal::Trailing => 10,
-            Refusal::LeavesFrame => 20,
-            Refusal::Full => 21,
-            Refusal::OnlyStart => 22,
-            Refusal::ListShort => 23,
-            Refusal::RowsShort => 24,
-            Refusal::BufferShort => 25,
-            Refusal::NoUsable => 26,
-            Refusal::OverBudget => 27,
-            Refusal::EdgeNoCode => 28,
-        }
+        self as u8
     }
 }

@@ -31,11 +31,9 @@ impl Outline {
         ensures said { answers.new ≡ answers_of (plain self.old) (take (length answers.old) calls.now) ++ drop (length calls.now) answers.old }
         ensures rules { Rules (plain self.new) }
     {
-        for i in 0..calls.len() {
-            if i >= answers.len() {
-                break;
-            }
-            answers[i] = self.call(calls[i]);
+        let made = calls.len().min(answers.len());
+        for (i, call) in calls[..made].iter().enumerate() {
+            answers[i] = self.call(*call);
         }
     }
 

@@ -40,7 +40,7 @@ impl Points {
     pub(crate) fn get(&self, k: usize) -> Option<Point>
         ensures { result ≡ slice_get (held self.now) k }
     {
-        if k < self.len { Some(self.at[k]) } else { None }
+        self.as_slice().get(k).copied()
     }
 
     pub(crate) fn last(&self) -> Point

@@ -3,18 +3,9 @@ use super::outline::Outline;
 use super::point::Point;
 use super::refusal::Refusal;
 
-fn accepted(r: Result<(), Refusal>) -> bool {
-    match r {
-        Ok(()) => true,
-        Err(_) => false,
-    }
-}
-
+// The number of the refusal, or 0.
 fn refused(r: Result<(), Refusal>) -> u8 {
-    match r {
-        Ok(()) => 0,
-        Err(e) => e.number(),
-    }
+    r.map_or_else(|refusal| refusal.number(), |()| 0)
 }
 
 fn opened(width: u16, height: u16, col: u16, row: u16) -> Outline {
@@ -23,18 +14,15 @@ fn opened(width: u16, height: u16, col: u16, row: u16) -> Outline {
     o
 }
 
-fn is_at(p: Option<Point>, col: u16, row: u16) -> bool {
-    match p {
-        Some(p) => p.col == col && p.row == row,
-        None => false,
-    }
+fn at(col: u16, row: u16) -> Option<Point> {
+    Some(Point { col, row })
 }
 
 #[test]
 fn new_outline_is_one_point(rt: HostRuntime) {
     let mut o = Outline::new();
     assert!(rt; o.width() == 1 && o.height() == 1 && o.len() == 1);
-    assert!(rt; is_at(o.point(0), 0, 0) && !is_at(o.point(1), 0, 0));
+    assert!(rt; o.point(0) == at(0, 0) && o.point(1) != at(0, 0));
     assert!(rt; refused(o.retract()) == 22);
     assert!(rt; refused(o.extend(0)) == 20);
 }
@@ -50,9 +38,9 @@ fn open_refuses_at_the_borders(rt: HostRuntime) {
     assert!(rt; refused(o.open(7, 9, 7, 8)) == 2);
     assert!(rt; refused(o.open(7, 9, 6, 9)) == 2);
     assert!(rt; o.width() == 1);
-    assert!(rt; accepted(o.open(1024, 1024, 1023, 1023)));
-    assert!(rt; accepted(o.open(7, 9, 6, 8)));
-    assert!(rt; o.width() == 7 && o.height() == 9 && is_at(o.point(0), 6, 8));
+    assert!(rt; o.open(1024, 1024, 1023, 1023).is_ok());
+    assert!(rt; o.open(7, 9, 6, 8).is_ok());
+    assert!(rt; o.width() == 7 && o.height() == 9 && o.point(0) == at(6, 8));
 }
 
 #[test]
@@ -68,18 +56,18 @@ fn a_step_off_each_side_is_refused(rt: HostRuntime) {
     o = opened(3, 3, 1, 2);
     assert!(rt; refused(o.extend(6)) == 20);
     o = opened(3, 3, 1, 1);
-    assert!(rt; accepted(o.extend(7)) && is_at(o.point(1), 2, 2));
+    assert!(rt; o.extend(7).is_ok() && o.point(1) == at(2, 2));
     assert!(rt; refused(o.extend(7)) == 20 && o.len() == 2);
-    assert!(rt; accepted(o.retract()) && o.len() == 1);
+    assert!(rt; o.retract().is_ok() && o.len() == 1);
 }
 
 #[test]
 fn there_is_room_for_256_points(rt: HostRuntime) {
     let mut o = opened(1024, 1024, 0, 0);
     for _ in 0..255 {
-        assert!(rt; accepted(o.extend(0)));
+        assert!(rt; o.extend(0).is_ok());
     }
-    assert!(rt; o.len() == 256 && is_at(o.point(255), 255, 0));
+    assert!(rt; o.len() == 256 && o.point(255) == at(255, 0));
     assert!(rt; refused(o.extend(0)) == 21);
     // In a full outline 21 comes before 20, and 3 before both.
     assert!(rt; refused(o.extend(2)) == 21 && refused(o.extend(9)) == 3);
@@ -102,7 +90,7 @@ fn a_run_answers_each_call(rt: HostRuntime) {
     ];
     let mut answers = [Ok(()); 5];
     let o = Outline::from_calls(&calls, &mut answers);
-    assert!(rt; refused(answers[0]) == 20 && accepted(answers[1]) && accepted(answers[2]));
-    assert!(rt; accepted(answers[3]) && refused(answers[4]) == 22);
-    assert!(rt; o.len() == 1 && o.width() == 4 && is_at(o.point(0), 1, 1));
+    assert!(rt; refused(answers[0]) == 20 && answers[1].is_ok() && answers[2].is_ok());
+    assert!(rt; answers[3].is_ok() && refused(answers[4]) == 22);
+    assert!(rt; o.len() == 1 && o.width() == 4 && o.point(0) == at(1, 1));
 }

@@ -1,147 +1,79 @@
 // Good records, damaged: each is refused, or is the record of what it reads as.
 use super::told::{Told, reads};
-use super::traced::{BLANK, NOWHERE, corner, equal, everyone, nowhere, same, traced};
+use super::traced::{BLANK, NOWHERE, corner, everyone, nowhere, traced};
 use coding::{BitRow, Coder, Kind};
-use outline::{Outline, Point};
+use outline::{Direction, Outline, Point, Refusal};
 use records::{read, record};
+use std::alloc::{AllocError, Global};
+use std::cmp::Ordering;
 use std::process::Abort;
 use std::test::Fail;
 
-// A record in fixed memory.
-#[derive(Clone, Copy)]
-struct Held {
-    bytes: [u8; 64],
-    len: usize,
-}
-
-impl Held {
-    fn slice(&self) -> &[u8] {
-        &self.bytes[0..self.len.min(64)]
-    }
-
-    // With a bit turned, counted from the high bit of the first byte.
-    fn flipped(self, k: usize) -> Held {
-        let mut bytes = self.bytes;
-        let at = (k / 8).min(63);
-        bytes[at] ^= 0x80 >> (k % 8);
-        Held { bytes, ..self }
-    }
-
-    // With a byte behind it, which its length counts.
-    fn longer(self, byte: u8) -> Held {
-        let mut bytes = self.bytes;
-        bytes[self.len.min(63)] = byte;
-        bytes[0] = bytes[0].saturating_add(1);
-        Held {
-            bytes,
-            len: self.len.min(63) + 1,
-        }
-    }
-
-    // Without its last byte, which its length no longer counts.
-    fn shorter(self) -> Held {
-        let mut bytes = self.bytes;
-        bytes[0] = bytes[0].saturating_sub(1);
-        Held {
-            bytes,
-            len: self.len.saturating_sub(1),
-        }
-    }
-}
-
-fn written(outline: &Outline, kind: u16, list: &[u16]) -> Option<Held> {
-    let mut bytes = [BLANK; 64];
-    let Ok(a) = record(outline, kind, list, &mut bytes) else {
-        return None;
-    };
-    Some(Held {
-        bytes,
-        len: a.bytes,
-    })
-}
-
-fn toward(from: Point, to: Point) -> u8 {
-    if to.col > from.col {
-        if to.row < from.row {
-            1
-        } else if to.row > from.row {
-            7
-        } else {
-            0
-        }
-    } else if to.col < from.col {
-        if to.row < from.row {
-            3
-        } else if to.row > from.row {
-            5
-        } else {
-            4
-        }
-    } else if to.row < from.row {
-        2
-    } else {
-        6
+fn toward(from: Point, to: Point) -> Direction {
+    match (to.col.cmp(&from.col), to.row.cmp(&from.row)) {
+        (Ordering::Greater, Ordering::Less) => Direction::Northeast,
+        (Ordering::Greater, Ordering::Equal) => Direction::East,
+        (Ordering::Greater, Ordering::Greater) => Direction::Southeast,
+        (Ordering::Equal, Ordering::Less) => Direction::North,
+        (Ordering::Equal, _) => Direction::South,
+        (Ordering::Less, Ordering::Less) => Direction::Northwest,
+        (Ordering::Less, Ordering::Equal) => Direction::West,
+        (Ordering::Less, Ordering::Greater) => Direction::Southwest,
     }
 }
 
 // Goes on to a point, by way of another where it is the last already.
-fn reach(outline: &mut Outline, from: Point, to: Point) -> bool {
-    if same(from, to) && outline.extend(0).is_err() && outline.extend(4).is_err() {
-        return false;
+fn reach(outline: &mut Outline, from: Point, to: Point) -> Result<(), Refusal> {
+    if from == to && outline.extend(0).is_err() {
+        outline.extend(4)?;
     }
     for _ in 0..256u16 {
-        let Some(at) = outline.point(outline.len().saturating_sub(1)) else {
-            return false;
-        };
-        if same(at, to) {
-            return true;
+        let at = *outline.points().last().ok_or(Refusal::NoPolygon)?;
+        if at == to {
+            return Ok(());
         }
-        if outline.extend(toward(at, to)).is_err() {
-            return false;
-        }
+        outline.extend(toward(at, to).into())?;
     }
-    false
+    Err(Refusal::Full)
 }
 
 // Goes on through all vertices after the first, and answers their point numbers.
-fn numbers(outline: &mut Outline, vertices: &[Point]) -> Option<[u16; 256]> {
+fn numbers(outline: &mut Outline, vertices: &[Point]) -> Result<[u16; 256], Refusal> {
     let mut list = [0u16; 256];
-    for k in 1..vertices.len().min(256) {
-        if !reach(outline, vertices[k - 1], vertices[k]) {
-            return None;
-        }
-        list[k] = outline.len().saturating_sub(1).min(255) as u16;
+    for (ends, place) in vertices.windows(2).zip(list.iter_mut().skip(1)) {
+        reach(outline, ends[0], ends[1])?;
+        *place = (outline.len() - 1) as u16;
     }
-    Some(list)
+    Ok(list)
 }
 
-// The record of some vertices, written by an outline through them, or none where they are too far apart for one.
-fn again(kind: u16, vertices: &[Point]) -> Option<Held> {
-    let start = *vertices.first()?;
+// Whether these bytes are what is written of some vertices by an outline through them. Refused where they are too far apart for one.
+fn is_rewritten(kind: u16, vertices: &[Point], bytes: &[u8]) -> Result<bool, Refusal> {
+    let Some(start) = vertices.first() else {
+        return Err(Refusal::NoPolygon);
+    };
     let mut outline = Outline::new();
-    if outline.open(1024, 1024, start.col, start.row).is_err() {
-        return None;
-    }
+    outline.open(1024, 1024, start.col, start.row)?;
     let list = numbers(&mut outline, vertices)?;
-    written(&outline, kind, &list[0..vertices.len().min(256)])
+    let list = &list[..vertices.len().min(256)];
+    let mut buffer = [BLANK; 64];
+    let written = record(&outline, kind, list, &mut buffer)?;
+    Ok(buffer.get(..written.bytes) == Some(bytes))
 }
 
-// Whether the codes of some vertices, one after the other, and zero bits to a whole byte are what follows a head.
-fn spelled(coder: Kind, vertices: &[Point], codes: &[u8]) -> bool {
+// Passes where the codes of some vertices, one after the other, and zero bits to a whole byte are what follows a head.
+fn check_spelled(coder: Kind, vertices: &[Point], codes: &[u8]) -> Option<()> {
     let mut row = BitRow::new(codes);
-    for k in 1..vertices.len() {
-        let (from, to) = (vertices[k - 1], vertices[k]);
-        let dx = to.col.min(1023) as i16 - from.col.min(1023) as i16;
-        let dy = to.row.min(1023) as i16 - from.row.min(1023) as i16;
-        let Some((bits, n)) = coder.code(dx, dy) else {
-            return false;
-        };
-        if row.number(n) != Some(bits) {
-            return false;
+    for ends in vertices.windows(2) {
+        let (dx, dy) = ends[0].offset(ends[1]);
+        let (bits, n) = coder.code(i16::try_from(dx).ok()?, i16::try_from(dy).ok()?)?;
+        if row.number(n)? != bits {
+            return None;
         }
         row = row.skip(n as usize);
     }
-    row.len() < 8 && row.number(row.len().min(7) as u8) == Some(0)
+    let padded = row.len() < 8 && row.number(row.len().min(7) as u8) == Some(0);
+    padded.then_some(())
 }
 
 // What becomes of damaged bytes.
@@ -152,33 +84,21 @@ enum Fate {
     Rewritten,
     // Likewise, but the vertices are too far apart for an outline.
     Spelled,
-    Wrong,
 }
 
-fn outcome(bytes: &[u8]) -> Fate {
+// None where they are read as what they are not.
+fn fate_of(bytes: &[u8]) -> Option<Fate> {
     let mut list = [NOWHERE; 256];
-    let Ok(a) = read(bytes, &mut list) else {
-        return if nowhere(&list) {
-            Fate::Refused
-        } else {
-            Fate::Wrong
-        };
+    let Ok(reading) = read(bytes, &mut list) else {
+        return nowhere(&list).then_some(Fate::Refused);
     };
-    let Ok(coder) = Kind::from_number(a.kind) else {
-        return Fate::Wrong;
-    };
-    let (taken, count) = (a.bytes, a.vertices);
-    if taken < 9 || taken > bytes.len() || count > 256 {
-        return Fate::Wrong;
-    }
-    let vertices = &list[0..count];
-    if !spelled(coder, vertices, &bytes[9..taken]) {
-        return Fate::Wrong;
-    }
-    match again(a.kind, vertices) {
-        Some(r) if equal(r.slice(), &bytes[0..taken]) => Fate::Rewritten,
-        Some(_) => Fate::Wrong,
-        None => Fate::Spelled,
+    let coder = Kind::try_from(reading.kind).ok()?;
+    let vertices = list.get(..reading.vertices)?;
+    let record = bytes.get(..reading.bytes)?;
+    check_spelled(coder, vertices, record.get(9..)?)?;
+    match is_rewritten(reading.kind, vertices, record) {
+        Ok(same) => same.then_some(Fate::Rewritten),
+        Err(_) => Some(Fate::Spelled),
     }
 }
 
@@ -189,47 +109,88 @@ struct Tally {
     spelled: usize,
 }
 
-fn damage(rt: &impl Abort, good: Held, tally: &mut Tally) -> Result<(), Fail> {
-    assert_eq!(rt; outcome(good.slice()), Fate::Rewritten);
-    for k in 0..good.len.min(64) * 8 {
-        match outcome(good.flipped(k).slice()) {
+impl Tally {
+    fn note(&mut self, fate: Fate) {
+        match fate {
             Fate::Refused => {}
-            Fate::Rewritten => tally.rewritten = tally.rewritten.saturating_add(1),
-            Fate::Spelled => tally.spelled = tally.spelled.saturating_add(1),
-            Fate::Wrong => return Err(Fail::new("read as what it is not")),
+            Fate::Rewritten => self.rewritten = self.rewritten.saturating_add(1),
+            Fate::Spelled => self.spelled = self.spelled.saturating_add(1),
         }
+    }
+}
+
+// With each bit turned.
+fn damage(rt: &impl Abort, good: &Vec<u8>, tally: &mut Tally) -> Result<(), Fail> {
+    assert_eq!(rt; fate_of(good), Some(Fate::Rewritten));
+    let mut bytes = good.clone()?;
+    for (at, byte) in good.iter().enumerate() {
+        for bit in 0..8u8 {
+            bytes[at] = *byte ^ (0x80 >> bit);
+            let Some(fate) = fate_of(&bytes) else {
+                return Err(Fail::new("read as what it is not"));
+            };
+            tally.note(fate);
+        }
+        bytes[at] = *byte;
     }
     Ok(())
 }
 
+// With another length in front, which is below 256.
+fn counted(mut bytes: Vec<u8>, length: u8) -> Vec<u8> {
+    if let Some(low) = bytes.first_mut() {
+        *low = length;
+    }
+    bytes
+}
+
 // Cut anywhere, and with a byte more.
-fn cut(rt: &impl Abort, good: Held) {
-    let whole = good.slice();
-    for n in 0..whole.len() {
-        assert_eq!(rt; reads(&whole[0..n]), Told::AtByte(6, 0));
+fn cut(rt: &impl Abort, good: &Vec<u8>) -> Result<(), Fail> {
+    for n in 0..good.len() {
+        assert_eq!(rt; reads(&good[..n]), Err(Told::AtByte(6, 0)));
     }
-    assert!(rt; reads(good.shorter().slice()) != Told::Accepted);
-    for b in 0..256u16 {
-        let long = good.longer(b as u8);
-        assert!(rt; reads(long.slice()) != Told::Accepted);
+    let length = *good.first().ok_or("no bytes")?;
+    let mut shorter = good.clone()?;
+    shorter.pop();
+    let shorter = counted(shorter, length.saturating_sub(1));
+    assert!(rt; reads(&shorter).is_err());
+    for b in 0..=u8::MAX {
+        let mut longer = good.clone()?;
+        longer.push(b)?;
         // Not counted by the length, the byte is ignored.
-        let mut later = long;
-        later.bytes[0] = good.bytes[0];
-        assert_eq!(rt; reads(later.slice()), Told::Accepted);
+        assert_eq!(rt; reads(&longer), Ok(()));
+        let longer = counted(longer, length.saturating_add(1));
+        assert!(rt; reads(&longer).is_err());
     }
+    Ok(())
+}
+
+// The record of some vertices of an outline, where it has one.
+fn written(
+    alloc: Global,
+    outline: &Outline,
+    kind: u16,
+    list: &[u16],
+) -> Result<Option<Vec<u8>>, AllocError> {
+    let mut bytes = vec![in alloc; BLANK; 64]?;
+    let Ok(written) = record(outline, kind, list, &mut bytes) else {
+        return Ok(None);
+    };
+    bytes.truncate(written.bytes);
+    Ok(Some(bytes))
 }
 
 fn all_kinds(
-    rt: &impl Abort,
+    rt: &(impl Abort + AllocGlobal),
     outline: &Outline,
     list: &[u16],
     tally: &mut Tally,
 ) -> Result<usize, Fail> {
     let mut count = 0usize;
     for kind in 1..6u16 {
-        if let Some(good) = written(outline, kind, list) {
-            damage(rt, good, tally)?;
-            cut(rt, good);
+        if let Some(good) = written(rt.alloc(), outline, kind, list)? {
+            damage(rt, &good, tally)?;
+            cut(rt, &good)?;
             count = count.saturating_add(1);
         }
     }

@@ -1,79 +1,50 @@
 // Lent memory that is just enough, and one place too short.
-use super::told::refused;
-use super::traced::{BLANK, NOWHERE, corner, everyone, longest, nowhere, same, traced};
-use outline::{Outline, Point, Refusal};
-use records::{Fault, Reading, Written, read, record};
+use super::told::{Told, writes};
+use super::traced::{BLANK, NOWHERE, corner, everyone, longest, nowhere, traced};
+use outline::{Outline, Refusal};
+use records::{Reading, Written, read, record};
 use std::process::Abort;
 use std::test::Fail;
 
-// Whether reading into a list is refused by 23 and leaves it.
-fn refused_by_list(bytes: &[u8], list: &mut [Point]) -> bool {
-    match read(bytes, list) {
-        Ok(_) => false,
-        Err(f) => f.refusal().number() == 23 && nowhere(list),
-    }
-}
-
-// The same, with a list of some places.
+// Whether reading into a list of some places is refused by 23 and leaves it.
 fn list_refused(bytes: &[u8], places: usize) -> bool {
     let mut list = [NOWHERE; 256];
-    refused_by_list(bytes, &mut list[0..places.min(256)])
+    let answer = read(bytes, &mut list[..places.min(256)]);
+    answer.is_err_and(|fault| Refusal::from(fault).number() == 23) && nowhere(&list)
 }
 
-// Writes into that many bytes.
-fn writes(
-    outline: &Outline,
-    kind: u16,
-    list: &[u16],
-    room: usize,
-) -> Result<([u8; 800], Written), Refusal> {
-    let mut buffer = [BLANK; 800];
-    let written = record(outline, kind, list, &mut buffer[0..room.min(800)])?;
-    Ok((buffer, written))
-}
-
-// Reads into that many places.
-fn fills(bytes: &[u8], places: usize) -> Result<([Point; 256], Reading), Fault> {
+// Whether reading into as many places as there are points gives just these.
+fn reads_back(record: &[u8], kind: u16, outline: &Outline) -> bool {
     let mut list = [NOWHERE; 256];
-    let reading = read(bytes, &mut list[0..places.min(256)])?;
-    Ok((list, reading))
-}
-
-// Whether the places hold the outline's points, and nothing past them.
-fn holds(outline: &Outline, list: &[Point; 256], vertices: usize) -> bool {
-    if vertices > 256 {
-        return false;
-    }
-    for k in 0..vertices {
-        match outline.point(k) {
-            Some(p) if same(p, list[k]) => {}
-            _ => return false,
-        }
-    }
-    nowhere(&list[vertices..256])
+    let answer = read(record, &mut list[..outline.len().min(256)]);
+    let right = Reading {
+        kind,
+        bytes: record.len(),
+        vertices: outline.len(),
+    };
+    answer == Ok(right) && list.strip_prefix(outline.points()).is_some_and(nowhere)
 }
 
 // All points of an outline: buffer and list that are exactly long enough, and one short.
 fn exactly(
-    rt: &impl Abort,
+    rt: &(impl Abort + AllocGlobal),
     outline: &Outline,
     kind: u16,
     bytes: usize,
     bits: usize,
 ) -> Result<(), Fail> {
-    let list = everyone();
-    let n = outline.len().min(256);
-    let (buffer, written) = writes(outline, kind, &list[0..n], bytes)?;
-    assert!(rt; written.bytes == bytes && written.bits == bits);
+    let everyone = everyone();
+    let n = outline.len();
+    let list = &everyone[..n.min(256)];
+    let mut buffer = vec![in rt.alloc(); BLANK; bytes]?;
     assert_eq!(rt;
-        refused(outline, kind, &list[0..n], bytes.saturating_sub(1)),
-        25
+        record(outline, kind, list, &mut buffer),
+        Ok(Written { bytes, bits })
     );
-    let record = &buffer[0..bytes.min(800)];
-    let (points, reading) = fills(record, n)?;
-    assert!(rt; reading.kind == kind && reading.bytes == bytes && reading.vertices == n);
-    assert!(rt; holds(outline, &points, n));
-    assert!(rt; list_refused(record, n.saturating_sub(1)) && list_refused(record, 0));
+    let short = bytes.saturating_sub(1);
+    assert_eq!(rt; writes(outline, kind, list, short), Err(Told::Alone(25)));
+    assert!(rt; reads_back(&buffer, kind, outline));
+    assert!(rt; list_refused(&buffer, n.saturating_sub(1)) && list_refused(&buffer, 0));
     Ok(())
 }
 

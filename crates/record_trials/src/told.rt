@@ -1,61 +1,50 @@
 // What reading and writing say, in numbers.
 use super::traced::{BLANK, NOWHERE, blank, nowhere};
-use outline::Outline;
+use outline::{Outline, Refusal};
 use records::{Fault, read, record};
 
-// The number of a refusal with its place: the byte of the head, or edge and bit.
+// The number of a refusal, with its place where it has one: the byte of the head, or edge and bit.
 #[derive(Clone, Copy, PartialEq, Eq, Debug)]
 pub enum Told {
-    Accepted,
     AtByte(u8, u8),
     AtBit(u8, u8, usize),
-    List(u8),
-    // A refusal that changed the list, or an answer that changed what lies past it.
+    Alone(u8),
+    // A refusal that changed what was lent, or an answer that changed what lies past it.
     Spoiled,
 }
 
+impl From<Fault> for Told {
+    fn from(fault: Fault) -> Told {
+        let number = Refusal::from(fault).number();
+        match fault {
+            Fault::Head(head) => Told::AtByte(number, head.byte()),
+            Fault::Code { edge, bit, .. } | Fault::End { edge, bit, .. } => {
+                Told::AtBit(number, edge, bit)
+            }
+            Fault::List => Told::Alone(number),
+        }
+    }
+}
+
 // What reading says, with a list of 256 places.
-pub(crate) fn reads(bytes: &[u8]) -> Told {
+pub(crate) fn reads(bytes: &[u8]) -> Result<(), Told> {
     let mut list = [NOWHERE; 256];
-    match read(bytes, &mut list) {
-        Ok(a) => {
-            let vertices = a.vertices;
-            if vertices <= 256 && nowhere(&list[vertices..256]) {
-                Told::Accepted
-            } else {
-                Told::Spoiled
-            }
-        }
-        Err(f) => {
-            if nowhere(&list) {
-                place(f)
-            } else {
-                Told::Spoiled
-            }
-        }
+    let answer = read(bytes, &mut list);
+    let taken = answer.map_or(0, |reading| reading.vertices);
+    if !list.get(taken..).is_some_and(nowhere) {
+        return Err(Told::Spoiled);
     }
+    answer?;
+    Ok(())
 }
 
-fn place(f: Fault) -> Told {
-    let number = f.refusal().number();
-    match f {
-        Fault::Head(h) => Told::AtByte(number, h.byte()),
-        Fault::Code { edge, bit, .. } => Told::AtBit(number, edge, bit),
-        Fault::End { edge, bit, .. } => Told::AtBit(number, edge, bit),
-        Fault::List => Told::List(number),
-    }
-}
-
-// The number of the refusal that writing into a buffer gives, 0 where it is accepted, 255 where a refusal changed the buffer.
-fn refusal(outline: &Outline, kind: u16, list: &[u16], buffer: &mut [u8]) -> u8 {
-    match record(outline, kind, list, buffer) {
-        Ok(_) => 0,
-        Err(e) => { if blank(buffer) { e.number() } else { 255 } }
-    }
-}
-
-// The same, with a buffer of some bytes.
-pub(crate) fn refused(outline: &Outline, kind: u16, list: &[u16], room: usize) -> u8 {
+// What writing into a buffer of some bytes says.
+pub(crate) fn writes(outline: &Outline, kind: u16, list: &[u16], room: usize) -> Result<(), Told> {
     let mut buffer = [BLANK; 800];
-    refusal(outline, kind, list, &mut buffer[0..room.min(800)])
+    let answer = record(outline, kind, list, &mut buffer[..room.min(800)]);
+    match answer {
+        Ok(_) => Ok(()),
+        Err(refusal) if blank(&buffer) => Err(Told::Alone(refusal.number())),
+        Err(_) => Err(Told::Spoiled),
+    }
 }

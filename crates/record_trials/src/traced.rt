@@ -10,10 +10,6 @@ pub const NOWHERE: Point = Point {
     row: 8888,
 };
 
-pub(crate) fn same(a: Point, b: Point) -> bool {
-    a.col == b.col && a.row == b.row
-}
-
 // The outline from (5, 5) by some directions, in a 32 by 32 frame.
 pub(crate) fn traced(directions: &[u8]) -> Result<Outline, Refusal> {
     let mut outline = Outline::new();
@@ -41,38 +37,16 @@ pub(crate) fn longest() -> Result<Outline, Refusal> {
 // All numbers of up to 256 points.
 pub(crate) fn everyone() -> [u16; 256] {
     let mut list = [0u16; 256];
-    for k in 0..256u16 {
-        list[k as usize] = k;
+    for (place, k) in list.iter_mut().zip(0u16..) {
+        *place = k;
     }
     list
 }
 
 pub(crate) fn blank(bytes: &[u8]) -> bool {
-    for b in bytes {
-        if *b != BLANK {
-            return false;
-        }
-    }
-    true
+    bytes.iter().all(|b| *b == BLANK)
 }
 
 pub(crate) fn nowhere(points: &[Point]) -> bool {
-    for p in points {
-        if !same(*p, NOWHERE) {
-            return false;
-        }
-    }
-    true
-}
-
-pub(crate) fn equal(a: &[u8], b: &[u8]) -> bool {
-    if a.len() != b.len() {
-        return false;
-    }
-    for k in 0..a.len() {
-        if a[k] != b[k] {
-            return false;
-        }
-    }
-    true
+    points.iter().all(|p| *p == NOWHERE)
 }

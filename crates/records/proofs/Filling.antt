@@ -1,8 +1,10 @@
 -- Codes put into bytes one after the other: a tail of fewer than eight bits behind whole bytes.
 use Rattle.std.proofs.Common.{◌≡◌, ℕ, zero, suc, ◌+◌, ◌-◌, ◌*◌, ◌/◌, ◌%◌, ◌^◌, ◌<◌, ◌≤◌, Bool, false, eqb, List, [], ◌∷◌, ◌++◌, length, take, set, replicate, sym, refl, ap, ◌∙◌, subst, ap₂, append_assoc, mul-le-mul_right, suc-mul, arith, length-set}
 use native.Mathlib.Nat.{zero-div}
+use borrow.Rule.Slice.PartMut.{put_mid}
 use Rattle.std.proofs.lemmas.Nat.{shr_high, shr-shr, shr_split, mod_below, pow_pos, shl_below, shl_whole, shr_below}
 use Rattle.std.proofs.lemmas.List.{append-nil, take_more_set, take_all}
+use Rattle.std.proofs.lemmas.Slice.{take-put_mid}
 use Rattle.coding.specs.Bits.{low_bits, bits_of}
 use Rattle.coding.specs.BitLists.{low_bits_add}
 
@@ -43,6 +45,10 @@ byte_out body at bits len p q less one long room =
     ∙ append_assoc (bits_of (take at body)) (low_bits 8 x) (low_bits p y)
     ∙ ap (λ bs. bits_of (take at body) ++ bs) joined
 
+-- whole bytes put behind those so far
+pub put_front : (body places : List ℕ) (at n k : ℕ) → n ≡ at + length places → at ≤ length body → bits_of (take n (put_mid at k body places)) ≡ bits_of (take at body) ++ bits_of places
+put_front body places at n k e l = ap bits_of (take-put_mid at k body places n e l) ∙ bits_of_append (take at body) places
+
 -- a code behind the tail
 pub code_in : (front : List Bool) (bits len code width : ℕ) → bits < 2 ^ len → len + width ≤ 64 → code < 2 ^ width
     → front ++ low_bits (len + width) (bits * 2 ^ width % 2 ^ 64 + code) ≡ (front ++ low_bits len bits) ++ low_bits width code
@@ -62,7 +68,7 @@ code_below bits len code width small few spelled =
     mul_step : bits * 2 ^ width + 2 ^ width ≤ 2 ^ len * 2 ^ width
     mul_step = omega (arith, mul-le-mul_right (2 ^ width) small, suc-mul bits (2 ^ width))
 
-low_zero : (n : ℕ) → low_bits n 0 ≡ replicate n false
+pub low_zero : (n : ℕ) → low_bits n 0 ≡ replicate n false
 low_zero zero = refl
 low_zero (suc n) = ap₂ (λ (b : Bool) (bs : List Bool). b ∷ bs) (ap (λ k. eqb (k % 2) 1) (zero_over (2 ^ n) (pow_pos n))) (low_zero n)
   where

@@ -1,6 +1,5 @@
 -- The prices of the edges added up along the vertices, and along the list of their numbers.
-use Rattle.std.proofs.Common.{◌≡◌, ℕ, suc, ◌+◌, ◌-◌, ◌<◌, ◌≤◌, Bool, ◌&&◌, ltb, List, [], ◌∷◌, map, length, get_or, drop, Some, None, fold, Option, unwrap_or, sym, refl, ap, ◌∙◌, zero-add, arith, length-append}
-use Rattle.std.proofs.lemmas.List.{drop_more, drop_all}
+use Rattle.std.proofs.Common.{◌≡◌, ℕ, suc, ◌+◌, ◌<◌, ◌≤◌, Bool, ◌&&◌, ltb, List, [], ◌∷◌, map, length, get_or, drop, Some, None, fold, Option, unwrap_or, sym, refl, ap, ◌∙◌, zero-add, arith, length-append}
 use Rattle.std.proofs.lemmas.Bool.{and_from, cond-true, lt-ltb}
 use Rattle.std.specs.Option.{option_map}
 use Rattle.outline.specs.declared.point.Point.{Point}
@@ -8,59 +7,35 @@ use Rattle.outline.specs.Held.{origin}
 use Rattle.outline.specs.Polygon.{edges}
 use Rattle.coding.specs.Tables.{Table, Codes, price_of}
 use Rattle.weighing.specs.Edges.{edge_price}
-use Rattle.records.specs.Bytes.{cols, rows, joined_codes, codes_from, codes_of}
+use Rattle.records.specs.Bytes.{cols, rows, codes_from}
 use Rattle.records.specs.Laws.{EdgeBitsAreCodes}
-use Rattle.records.proofs.Polygons.{polygon_below}
+use Rattle.records.specs.Writing.{vertices, added, bits_from}
+use Rattle.records.proofs.Polygons.{polygon_below, vertices_more}
 use Rattle.records.proofs.Spelling.{codes_parts}
 
-plus_none : (o : Option ℕ) → option_map (λ n. 0 + n) o ≡ o
-plus_none (Some n) = ap Some (zero-add n)
-plus_none None = refl
+-- one price more is added
+added_more : (b p : ℕ) (first rest : Option ℕ) → Some p ≡ first → option_map (λ n. b + p + n) rest ≡ option_map (λ n. b + n) (added first rest)
+added_more b p (Some q) (Some n) e =
+    let is : p ≡ q = cc in
+    ap Some (omega (arith, is))
+added_more b p (Some q) None e = refl
+added_more b p None rest e = let z : ◌≡◌ {A = ℕ} 0 1 = cc in absurd (omega arith)
 
--- the price of what lies ahead of a vertex
-abbrev pub ahead_bits : Table → List Point → ℕ → Option ℕ
-ahead_bits t vs k = price_of (codes_from t (get_or vs (k - 1) origin) (drop k vs))
+added_none : (b : ℕ) (first rest : Option ℕ) → None ≡ first → None ≡ option_map (λ n. b + n) (added first rest)
+added_none b (Some p) rest e = let z : ◌≡◌ {A = ℕ} 0 1 = cc in absurd (omega arith)
+added_none b None rest e = refl
 
-pub bits_start : (t : Table) (vs : List Point) → 0 < length vs → option_map (λ n. 0 + n) (ahead_bits t vs 1) ≡ price_of (codes_of t vs)
-bits_start t [] some = absurd (omega arith)
-bits_start t (u ∷ vs) some = plus_none (price_of (codes_from t u vs))
+module _ (t : Table) (u : Point) (ps : List Point) (rest : List ℕ) (k b : ℕ) (all : Option ℕ) (so_far : option_map (λ n. b + n) (bits_from t u (vertices ps (drop k rest))) ≡ all) where
+  module _ (v : Point) (l : k < length rest) (next : v ≡ get_or ps (get_or rest k 0) origin) where
+    pub bits_more : (p : ℕ) → Some p ≡ price_of (t (cols u v) (rows u v)) → option_map (λ n. b + p + n) (bits_from t v (vertices ps (drop (k + 1) rest))) ≡ all
+    bits_more p price =
+        added_more b p _ (bits_from t v (vertices ps (drop (k + 1) rest))) price
+        ∙ ap (λ vs. option_map (λ n. b + n) (bits_from t u vs)) (sym (vertices_more ps rest k v l next)) ∙ so_far
 
--- the price of the edge to vertex k
-abbrev next_price : Table → List Point → ℕ → Option ℕ
-next_price t vs k = price_of (t (cols (get_or vs (k - 1) origin) (get_or vs k origin)) (rows (get_or vs (k - 1) origin) (get_or vs k origin)))
-
--- the first edge of what lies ahead
-ahead_first : (t : Table) (vs : List Point) (k : ℕ) → k < length vs
-    → ahead_bits t vs k ≡ price_of (joined_codes (t (cols (get_or vs (k - 1) origin) (get_or vs k origin)) (rows (get_or vs (k - 1) origin) (get_or vs k origin))) (codes_from t (get_or vs k origin) (drop (k + 1) vs)))
-ahead_first t vs k l = ap (λ ws. price_of (codes_from t (get_or vs (k - 1) origin) ws)) (drop_more vs k origin l)
-
-price_joined : (b p : ℕ) (first rest : Option (List Bool)) → Some p ≡ price_of first → option_map (λ n. b + p + n) (price_of rest) ≡ option_map (λ n. b + n) (price_of (joined_codes first rest))
-price_joined b p (Some code) (Some codes) e =
-    let is : p ≡ length code = cc in
-    ap Some (omega (arith, is, length-append code codes))
-price_joined b p (Some code) None e = refl
-price_joined b p None rest e = let z : ◌≡◌ {A = ℕ} 0 1 = cc in absurd (omega arith)
-
-none_joined : (b : ℕ) (first rest : Option (List Bool)) → None ≡ price_of first → None ≡ option_map (λ n. b + n) (price_of (joined_codes first rest))
-none_joined b (Some code) rest e = let z : ◌≡◌ {A = ℕ} 0 1 = cc in absurd (omega arith)
-none_joined b None rest e = refl
-
-pub bits_more : (t : Table) (vs : List Point) (k b p : ℕ) (all : Option ℕ) → k < length vs → Some p ≡ next_price t vs k → option_map (λ n. b + n) (ahead_bits t vs k) ≡ all → option_map (λ n. b + p + n) (ahead_bits t vs (k + 1)) ≡ all
-bits_more t vs k b p all l price so_far =
-    ap (λ i. option_map (λ n. b + p + n) (price_of (codes_from t (get_or vs i origin) (drop (k + 1) vs)))) (omega arith)
-    ∙ price_joined b p _ (codes_from t (get_or vs k origin) (drop (k + 1) vs)) price
-    ∙ ap (option_map (λ n. b + n)) (sym (ahead_first t vs k l))
-    ∙ so_far
-
-pub bits_none : (t : Table) (vs : List Point) (k b : ℕ) (all : Option ℕ) → k < length vs → None ≡ next_price t vs k → option_map (λ n. b + n) (ahead_bits t vs k) ≡ all → None ≡ all
-bits_none t vs k b all l price so_far =
-    none_joined b _ (codes_from t (get_or vs k origin) (drop (k + 1) vs)) price
-    ∙ ap (option_map (λ n. b + n)) (sym (ahead_first t vs k l))
-    ∙ so_far
-
-pub bits_end : (t : Table) (vs : List Point) (k b : ℕ) (all : Option ℕ) → length vs ≤ k → option_map (λ n. b + n) (ahead_bits t vs k) ≡ all → Some b ≡ all
-bits_end t vs k b all l so_far =
-    ap Some (omega arith) ∙ ap (λ ws. option_map (λ n. b + n) (price_of (codes_from t (get_or vs (k - 1) origin) ws))) (sym (drop_all k vs l)) ∙ so_far
+    pub bits_none : None ≡ price_of (t (cols u v) (rows u v)) → None ≡ all
+    bits_none price =
+        added_none b _ (bits_from t v (vertices ps (drop (k + 1) rest))) price
+        ∙ ap (λ vs. option_map (λ n. b + n) (bits_from t u vs)) (sym (vertices_more ps rest k v l next)) ∙ so_far
 
 -- a price is the length of a code
 pub some_price : (o : Option (List Bool)) (p : ℕ) → Some p ≡ price_of o → (code : List Bool) × (o ≡ Some code) × (p ≡ length code)

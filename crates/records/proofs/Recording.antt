@@ -1,30 +1,24 @@
 -- The record of a polygon in a buffer: its head, its codes, and what the call answers.
 use Rattle.std.proofs.Common.{◌≡◌, ℕ, suc, ◌+◌, ◌-◌, ◌*◌, ◌/◌, ◌<◌, ◌≤◌, Bool, leb, List, [], ◌∷◌, ◌++◌, length, get_or, take, drop, Some, None, Ok, Err, Option, Result, sym, refl, ap, ◌∙◌, subst, ap₂, append_assoc, arith, length-append, length-drop, length-take}
 use borrow.Rule.Slice.PartMut.{put_mid, post_of}
-use lib.ListN.{length-map}
 use Rattle.std.proofs.lemmas.List.{take_at, drop_at, drop-drop}
 use Rattle.std.proofs.lemmas.Bool.{cond-true, cond-false, le-leb, lt-leb}
 use Rattle.std.specs.Option.{option_map}
-use Rattle.outline.specs.declared.outline.Outline.{Outline}
 use Rattle.outline.specs.declared.point.Point.{Point}
 use Rattle.outline.specs.declared.refusal.Refusal.{Refusal}
 use Rattle.outline.specs.declared.refusal.Refusal.TheVariants.{Kind, BufferShort, EdgeNoCode}
 use Rattle.outline.specs.Held.{origin}
-use Rattle.outline.specs.Plain.{plain}
 use Rattle.outline.specs.Polygon.{Polygon}
-use Rattle.outline.proofs.Kept.{rules_of}
 use Rattle.coding.specs.Tables.{Table, Codes, price_of}
 use Rattle.weighing.specs.Edges.{edge_price, polygon_bits}
 use Rattle.records.specs.declared.written.Written.{Written}
 use Rattle.records.specs.Bytes.{word, cols, rows, codes_from, codes_of, bytes_of, framed, record_of}
-use Rattle.records.specs.Reading.{Kinds, only}
-use Rattle.records.specs.Tails.{AllInside}
+use Rattle.records.specs.Reading.{AllInside, Kinds, only}
 use Rattle.records.specs.Writing.{vertices, stored}
 use Rattle.records.specs.Numbered.{code_answer, Recorded, Records, KnownBack}
 use Rattle.records.proofs.Acceptance.{only_kind}
 use Rattle.records.proofs.Known.{accepted_more}
 use Rattle.records.proofs.Packing.{length_packed}
-use Rattle.records.proofs.Polygons.{polygon_few, vertices_inside}
 use Rattle.records.proofs.Prices.{edge_bits_are_codes, some_price, none_price}
 use Rattle.records.proofs.Spelling.{codes_parts}
 
@@ -155,17 +149,3 @@ pub codes_bytes : (t : Table) (vs : List Point) (codes : List Bool) (body : List
 codes_bytes t vs codes body c e =
     let both : Some (bytes_of codes) ≡ Some body = ap (option_map bytes_of) (sym c) ∙ e in
     cc
-
--- the vertices in fixed memory are those of a polygon
-module _ (o : Outline) (list : List ℕ) (p : Polygon (length (plain o).points) list) (at : List Point) (filled : take (length list) at ≡ vertices (plain o).points list) where
-  pub corners_are : take (length list - 0) at ≡ vertices (plain o).points list
-  corners_are = let same : length list - 0 ≡ length list = omega arith in ap (λ n. take n at) same ∙ filled
-
-  pub corners_inside : AllInside (take (length list - 0) at)
-  corners_inside = subst AllInside (sym corners_are) (vertices_inside o list p)
-
-  pub corners_count : length (take (length list - 0) at) ≡ length list
-  corners_count = ap length corners_are ∙ length-map list (λ i. get_or (plain o).points i origin)
-
-pub list_few : (o : Outline) (list : List ℕ) → Polygon (length (plain o).points) list → (1 ≤ length list) × (length list ≤ 256)
-list_few o list p = (p.some, omega (arith, polygon_few (length (plain o).points) list p, (rules_of o).count.1))

@@ -1,4 +1,5 @@
 pub mod Bytes
+pub mod Corners
 pub mod Faults
 pub mod Laws
 pub mod Numbered

@@ -41,6 +41,10 @@ code_bits bs = bits_of (take (word_at bs 0 - 7) (drop 9 bs))
 abbrev pub Inside : Point → Type 0
 Inside p = (p.col < 1024) × (p.row < 1024)
 
+-- Every point of a list lies inside.
+abbrev pub AllInside : List Point → Type 0
+AllInside vs = (k : ℕ) → k < length vs → Inside (slice_index_or vs k origin)
+
 -- Fewer than eight bits, and none of them set.
 abbrev pub Padding : List Bool → Type 0
 Padding bits = (length bits < 8) × (bits ≡ replicate (length bits) false)
@@ -74,7 +78,7 @@ pub record Spelled (t : Table) (row : List Bool) (vs : List Point) (bit : ℕ) :
   pub coded : codes_of t vs ≡ Some codes
   pub begins : Begins codes row
   pub ends : length codes ≡ bit
-  pub inside : (k : ℕ) → k < length vs → Inside (slice_index_or vs k origin)
+  pub inside : AllInside vs
 
 -- No code of the table begins a row of bits.
 abbrev pub Codeless : Table → List Bool → Type 0
@@ -111,7 +115,7 @@ pub record Accepted (known : Kinds) (bs : List ℕ) (kind : ℕ) (vs : List Poin
   pub written : record_of table kind vs ≡ Some bytes
   pub begins : take (length bytes) bs ≡ bytes
   pub takes : length bytes ≡ taken
-  pub inside : (k : ℕ) → k < length vs → Inside (slice_index_or vs k origin)
+  pub inside : AllInside vs
 
 -- Why bytes are refused, and where, given how many vertices the list has places for.
 abbrev pub Refused : Kinds → List ℕ → ℕ → Fault → Type 0

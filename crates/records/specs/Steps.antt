@@ -4,7 +4,6 @@ use Rattle.outline.specs.declared.point.Point.{Point}
 use Rattle.outline.specs.Held.{origin}
 use Rattle.coding.specs.Bits.{Begins}
 use Rattle.coding.specs.Tables.{Table}
-use Rattle.records.specs.declared.fault.BitFault.{BitFault}
 use Rattle.records.specs.declared.fault.BitFault.TheVariants.{Trailing}
 use Rattle.records.specs.declared.fault.CoderFault.{CoderFault}
 use Rattle.records.specs.declared.fault.Fault.{Fault}
@@ -27,11 +26,6 @@ abbrev pub Stepped : Table → List Bool → Point → Result (Point × ℕ) Cod
 Stepped t row from (Ok r) = Leads t row from r.0 r.1
 Stepped t row from (Err f) = WrongCode t row from f
 
--- A coder's fault with its edge and bit.
-abbrev pub placed : {X : Type 0} → ℕ → ℕ → Result X CoderFault → Result X Fault
-placed edge bit (Ok x) = Ok x
-placed edge bit (Err f) = Err (Code f edge bit)
-
 -- Where reading the codes stops: at an edge, with all vertices before it spelled.
 pub record Stopped (t : Table) (row : List Bool) (start : Point) (edges : ℕ) (fault : CoderFault) (edge bit : ℕ) : Type 0 where
   pub within : edge ≤ edges
@@ -48,11 +42,6 @@ Traversed t row start edges at (Err (Code fault edge bit)) = Stopped t row start
 Traversed t row start edges at (Err (Head f)) = ⊥
 Traversed t row start edges at (Err (End f edge bit)) = ⊥
 Traversed t row start edges at (Err Full) = ⊥
-
--- A fault after the last code with its edge and bit.
-abbrev pub ended : {X : Type 0} → ℕ → ℕ → Result X BitFault → Result X Fault
-ended edge bit (Ok x) = Ok x
-ended edge bit (Err f) = Err (End f edge bit)
 
 -- Vertices from a start on are spelled by all the codes that a number of edges has, up to a bit.
 pub record AllSpelled (t : Table) (row : List Bool) (start : Point) (edges : ℕ) (vs : List Point) (bit : ℕ) : Type 0 where

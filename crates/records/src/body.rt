@@ -2,38 +2,23 @@ ghost use Rattle.std.specs.Prelude.{◌≡◌, ◌+◌, ◌-◌, ◌^◌, length
 ghost use Rattle.coding.specs.Bits.{bits_of};
 ghost use Rattle.coding.specs.Rows.{row_bits};
 ghost use Rattle.records.specs.Reading.{Padding};
-ghost use Rattle.records.specs.Steps.{ended, BodyRead, RecordRead};
+ghost use Rattle.records.specs.Steps.{BodyRead, RecordRead};
 
-use super::edges::{SIDE, read_edges};
+use super::edges::read_edges;
 use super::fault::{BitFault, Fault, HeadFault};
 use super::head::Head;
 use super::reading::Reading;
 use coding::{BitRow, Coder};
-use outline::Point;
+use outline::{LONGEST_SIDE, Point};
 
 // After the last code there are only zero bits, too few for a byte.
 fn padding(row: BitRow<'_>) -> Result<(), BitFault>
     ensures { MatchResult result (λ _. Padding (row_bits row.entry)) (λ _. Padding (row_bits row.entry) → ⊥) }
 {
-    if row.len() >= 8 {
-        return Err(BitFault::Trailing);
-    }
-    for k in 0..row.len() {
-        let set = row.bit(k).unwrap_or(false);
-        if set {
-            return Err(BitFault::Trailing);
-        }
-    }
-    Ok(())
-}
-
-// A fault of the bits' layer with the place where the last code ends.
-fn at_end<T>(r: Result<T, BitFault>, edge: u8, bit: usize) -> Result<T, Fault>
-    ensures { result ≡ ended edge bit r }
-{
-    match r {
-        Ok(v) => Ok(v),
-        Err(fault) => Err(Fault::End { fault, edge, bit }),
+    if row.len() < 8 && row.number(row.len() as u8) == Some(0) {
+        Ok(())
+    } else {
+        Err(BitFault::Trailing)
     }
 }
 
@@ -45,17 +30,18 @@ pub(crate) fn read_body<C: Coder>(
 ) -> Result<usize, Fault>
     ensures { BodyRead (C.Coder.table coder.now) (take (2 ^ 64 - 1) (bits_of head.entry.codes.now)) head.entry.start head.entry.edges list.old list.new result }
 {
-    if head.start.col >= SIDE {
+    if head.start.col >= LONGEST_SIDE {
         return Err(Fault::Head(HeadFault::Column));
     }
-    if head.start.row >= SIDE {
+    if head.start.row >= LONGEST_SIDE {
         return Err(Fault::Head(HeadFault::Row));
     }
+    let edge = head.edges;
+    let vertices = edge as usize + 1;
     let mut at = [head.start; 256];
     let row = BitRow::new(head.codes);
-    let bit = read_edges(coder, row, head.edges, &mut at)?;
-    at_end(padding(row.skip(bit)), head.edges, bit)?;
-    let vertices = head.edges as usize + 1;
+    let bit = read_edges(coder, row, head.start, &mut at[1..vertices])?;
+    padding(row.skip(bit)).map_err(|fault| Fault::End { fault, edge, bit })?;
     if list.len() < vertices {
         return Err(Fault::List);
     }

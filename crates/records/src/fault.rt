@@ -1,13 +1,13 @@
 ghost use Rattle.std.specs.Prelude.{◌≡◌};
 ghost use Rattle.records.specs.declared.fault.Fault.TheVariants.{Head};
 
-// What is wrong with the head of a record.
+// What is wrong with the head of a record, and the byte at which it is told.
 #[derive(Clone, Copy, PartialEq, Eq, Debug)]
 pub enum HeadFault {
-    Short,
-    Kind,
-    Column,
-    Row,
+    Short = 0,
+    Kind = 2,
+    Column = 4,
+    Row = 6,
 }
 
 // What is wrong with a code.

@@ -2,7 +2,7 @@
 #![tactic(auto)]
 
 mod body;
-mod codes;
+mod corners;
 mod edges;
 mod fault;
 mod head;

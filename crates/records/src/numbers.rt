@@ -9,21 +9,16 @@ impl HeadFault {
     pub fn byte(self) -> u8
         ensures { result ≡ byte_of self }
     {
-        match self {
-            HeadFault::Short => 0,
-            HeadFault::Kind => 2,
-            HeadFault::Column => 4,
-            HeadFault::Row => 6,
-        }
+        self as u8
     }
 }
 
-impl Fault {
-    // The refusal that the fault is, which has its number.
-    pub fn refusal(self) -> Refusal
-        ensures { result ≡ refusal_of self }
-    {
-        match self {
+// The refusal that a fault is, which has its number.
+impl From<Fault> for Refusal {
+    ghost from_gives = { λ f r. r ≡ refusal_of f };
+
+    fn from(fault: Fault) -> Refusal {
+        match fault {
             Fault::Head(HeadFault::Short) => Refusal::Short,
             Fault::Head(HeadFault::Kind) => Refusal::Kind,
             Fault::Head(HeadFault::Column) => Refusal::PointOutside,

@@ -8,18 +8,13 @@ use super::reading::Reading;
 use coding::{Chain, Coder, Kind};
 use outline::Point;
 
-// The kind number of chain records.
-const CHAIN: u16 = 4;
-
 // Reads a record of kind 1 to 5.
 pub fn read(bytes: &[u8], list: &mut [Point]) -> Result<Reading, Fault>
     ensures right { ReadRight all_kinds bytes.now list.old list.new result }
     ensures exact { ReadExact all_kinds bytes.now list.old list.new result }
 {
     let head = read_head(bytes)?;
-    let Ok(coder) = Kind::from_number(head.kind) else {
-        return Err(Fault::Head(HeadFault::Kind));
-    };
+    let coder = Kind::try_from(head.kind).map_err(|_| HeadFault::Kind)?;
     read_after_head(&coder, head, list)
 }
 
@@ -45,5 +40,5 @@ pub fn read_chain(bytes: &[u8], list: &mut [Point]) -> Result<Reading, Fault>
     ensures right { ReadRight (only 4 (by_direction chain_code)) bytes.now list.old list.new result }
     ensures exact { ReadExact (only 4 (by_direction chain_code)) bytes.now list.old list.new result }
 {
-    read_kind(CHAIN, &Chain, bytes, list)
+    read_kind(u16::from(Kind::Chain), &Chain, bytes, list)
 }

@@ -1,4 +1,4 @@
-ghost use Rattle.std.specs.Prelude.{◌≡◌, ◌<◌, length, slice_set};
+ghost use Rattle.std.specs.Prelude.{◌≡◌};
 ghost use Rattle.replay.specs.Runs.{front, noted};
 
 use crate::answer::Answer;
@@ -15,22 +15,19 @@ pub fn first_places(list: &[u16]) -> [u16; 256]
     ensures { result ≡ front list.now }
 {
     let mut places = [0; 256];
-    for i in 0..list.len() {
-        if i >= 256 {
-            break;
-        }
-        places[i] = list[i];
-    }
+    let count = list.len().min(256);
+    places[..count].copy_from_slice(&list[..count]);
     places
 }
 
-// Notes the answer to a call, and the list that it leaves.
-pub(crate) fn note<C: Copy>(entries: &mut [Entry<C>], i: usize, answer: Answer<C>, list: &[u16])
-    requires { i < length entries.old }
-    ensures { entries.new ≡ slice_set entries.old i (noted answer list.now) }
-{
-    entries[i] = Entry {
-        answer,
-        list: first_places(list),
-    };
+impl<C: Copy> Entry<C> {
+    // Notes the answer to a call, and the list that it leaves.
+    pub(crate) fn of(answer: Answer<C>, list: &[u16]) -> Entry<C>
+        ensures { result ≡ noted answer list.now }
+    {
+        Entry {
+            answer,
+            list: first_places(list),
+        }
+    }
 }

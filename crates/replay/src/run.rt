@@ -7,7 +7,7 @@ ghost use Rattle.replay.specs.Runs.{Run};
 ghost use Rattle.replay.specs.Traced.{AsTraced};
 
 use crate::call::Call;
-use crate::entry::{Entry, note};
+use crate::entry::Entry;
 use crate::make::make_call;
 use coding::Coder;
 use cost::bits::Bits;
@@ -36,13 +36,13 @@ pub fn replay<'a, W: Weigher, C: Coder, M: Measure>(
     ensures traced { AsTraced (plain outline.old) (take (length entries.old) calls.now) (take (length calls.now) entries.new) (plain outline.new) }
     ensures rules { Rules (plain outline.new) }
 {
-    for i in 0..calls.len() {
-        if i >= entries.len() {
+    for (i, entry) in entries.iter_mut().enumerate() {
+        let Some(call) = calls.get(i) else {
             break;
-        }
+        };
         let answer = make_call(
-            outline, weigher, coder, measure, calls[i], rows, priced, straying, list,
+            outline, weigher, coder, measure, *call, rows, priced, straying, list,
         );
-        note(entries, i, answer, list);
+        *entry = Entry::of(answer, list);
     }
 }

@@ -31,10 +31,7 @@ const CALLS: [Call; 14] = [
 ];
 
 fn of<T: Drop>(answer: Result<T, Refusal>) -> u8 {
-    match answer {
-        Ok(_) => 0,
-        Err(refusal) => refusal.number(),
-    }
+    answer.map_or_else(|refusal| refusal.number(), |_| 0)
 }
 
 fn number(answer: Answer<Deviation>) -> u8 {
@@ -82,11 +79,7 @@ fn a_corner(rt: HostRuntime) {
         &mut list,
         &mut entries,
     );
-    let mut numbers = [0; 14];
-    for i in 0..14 {
-        let entry = entries[i];
-        numbers[i] = number(entry.answer);
-    }
+    let numbers = entries.map(|entry| number(entry.answer));
     assert_eq!(rt; numbers, [0, 0, 3, 0, 0, 0, 0, 0, 4, 24, 27, 0, 0, 0]);
     let least = entries[6];
     assert_eq!(rt; least.list[1], 2);

@@ -1,9 +1,8 @@
 -- How a command's text begins: with one word, which says what follows.
-use Rattle.std.proofs.Common.{◌≡◌, ℕ, ◌^◌, ◌<◌, ◌≤◌, true, cond, eqb, List, [], ◌∷◌, ◌++◌, length, get_or, Some, None, decimal, Option, sym, refl, ap, ◌∙◌, subst, arith, lit<, MatchOption}
+use Rattle.std.proofs.Common.{◌≡◌, ℕ, ◌^◌, ◌<◌, ◌≤◌, cond, eqb, List, [], ◌∷◌, ◌++◌, get_or, Some, None, decimal, Option, sym, refl, ap, ◌∙◌, subst, arith, lit<, MatchOption}
 use Rattle.measure.specs.declared.chosen.Chosen.TheVariants.{Line, Pace}
 use Rattle.std.proofs.lemmas.List.Prefix.{front_rest}
 use Rattle.std.proofs.lemmas.Fmt.{decimal_injective}
-use Rattle.std.proofs.lemmas.Bool.{eqb-true}
 use Rattle.scripts.specs.Commands.{Fitting, command_text}
 use Rattle.scripts.specs.Numbers.{Reads}
 use Rattle.scripts.specs.Words.{word_text, word_of, arguments, Begun}
@@ -132,12 +131,6 @@ none_of w t none c begun e =
     let is = subst (λ (v : Word). (x : Holds v) × (c ≡ built v x)) begun.1 (rebuilt c) in
     none is.0 (subst Fitting is.1 begun.0) (e ∙ ap arguments is.1)
 
--- a word that nothing follows
-pub lone : (w : Word) (one : Command) (t : List ℕ) (r : Option Command) → MatchOption r (t ≡ [] → ⊥) (λ c. (c ≡ one) × (t ≡ [])) → Begun w one → arguments one ≡ [] → ((x : Holds w) → built w x ≡ one) → Reads arguments (Begun w) t r
-lone w one t None none begun empty only = none_of w t (λ x fits e. none (e ∙ ap arguments (only x) ∙ empty))
-lone w one t (Some c) is begun empty only =
-    (subst (Begun w) (sym is.0) begun, is.1 ∙ sym empty ∙ ap arguments (sym is.0))
-
 -- a line that a word begins, read on from there
 pub read_on : (t : List ℕ) (w : Word) (rest : List ℕ) (r : Option Command) → t ≡ word_text w ++ rest → Reads arguments (Begun w) rest r → Reads command_text Fitting t r
 read_on t w rest (Some c) begins read =
@@ -146,11 +139,6 @@ read_on t w rest (Some c) begins read =
 read_on t w rest None begins none = λ c fits e.
     let one = one_word t w (word_of c) rest (arguments c) begins (e ∙ in_two c) in
     none c (fits, sym one.0) one.1
-
--- a text of no length
-pub empty : (t : List ℕ) → eqb (length t) 0 ≡ true → t ≡ []
-empty [] e = refl
-empty (b ∷ bs) e = let none = eqb-true (length (b ∷ bs)) 0 e in absurd (omega arith)
 
 -- a number of places
 pub read_count : (t : List ℕ) (n : ℕ) (r : Option Places) → MatchOption r (256 < n) (λ p. p.count ≡ n) → (n < 2 ^ 16) × (t ≡ decimal n) → Reads (λ p. decimal p.count) (λ p. p.count ≤ 256) t r

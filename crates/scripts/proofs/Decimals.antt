@@ -1,5 +1,5 @@
 -- Decimals: how they begin, and what is read as one.
-use Rattle.std.proofs.Common.{◌≡◌, ℕ, ◌^◌, ◌<◌, ◌≤◌, List, length, get_or, Ok, Err, decimal, Result, sym, ap, ◌∙◌, subst, arith, rules}
+use Rattle.std.proofs.Common.{◌≡◌, ℕ, ◌^◌, ◌<◌, ◌≤◌, List, length, get_or, Some, None, Ok, Err, decimal, MatchOption, Option, Result, sym, ap, ◌∙◌, subst, arith, rules}
 use native.Mathlib.Decide.{dec_lt}
 use Rattle.std.proofs.lemmas.Fmt.{decimal_is_IsNumeral, decimal_nonempty, decimal_digit, first_decimal, decimal-digits_value, parse-decimal, decimal_injective}
 use Rattle.std.proofs.lemmas.Str.Parse.{IsNumeralModel, numerals_by_value, tells_digits, digit_at, parse_plain}
@@ -52,7 +52,12 @@ pub reads_number : {E : Type 0} (bs : List ℕ) (r : Result ℕ E) → ParsesUns
 reads_number bs r reads plus zero = read_back bs r reads (parse_plain own 64 bs r reads plus) zero
 
 -- a number that is read, taken at a narrower width
-pub narrowed : {E : Type 0} (k : ℕ) → ((m : ℕ) → m < 2 ^ k → m < 2 ^ 64) → (t : List ℕ) (n : ℕ) (r : Result ℕ E) → OkIff r (n < 2 ^ k) n → n < 2 ^ 64 → t ≡ decimal n → Reads decimal (λ m. m < 2 ^ k) t (result_ok r)
-narrowed k wide t n (Ok x) converted small is = (subst (λ (m : ℕ). m < 2 ^ k) (sym converted.1) converted.0, is ∙ ap decimal (sym converted.1))
-narrowed k wide t n (Err e) above small is = λ m fits other.
-    above (subst (λ (x : ℕ). x < 2 ^ k) (decimal_injective m n (wide m fits) small (sym other ∙ is)) fits)
+pub narrowed : {A : Type 0} (value : A → ℕ) (limit : ℕ) → limit ≤ 2 ^ 64 → (t : List ℕ) (n : ℕ) (r : Option A) → MatchOption r (limit ≤ n) (λ x. (value x ≡ n) × (n < limit)) → n < 2 ^ 64 → t ≡ decimal n
+    → Reads (λ x. decimal (value x)) (λ x. value x < limit) t r
+narrowed value limit within t n (Some x) is small e = (omega (arith, is.0, is.1), e ∙ ap decimal (sym is.0))
+narrowed value limit within t n None above small e = λ x fits other.
+    let same = decimal_injective (value x) n (omega arith) small (sym other ∙ e) in
+    omega arith
+
+pub none_narrower : {A : Type 0} (value : A → ℕ) (limit : ℕ) → limit ≤ 2 ^ 64 → (t : List ℕ) → Reads decimal (λ m. m < 2 ^ 64) t None → Reads (λ x. decimal (value x)) (λ x. value x < limit) t None
+none_narrower value limit within t none = λ x fits. none (value x) (omega arith)

@@ -1,9 +1,10 @@
 -- The text of a command is ASCII.
-use Rattle.std.proofs.Common.{◌≡◌, ℕ, ◌^◌, ◌<◌, Bool, true, ◌&&◌, ltb, List, [], ◌∷◌, IsAscii, decimal, sym, refl, subst, arith, lit<}
+use Rattle.std.proofs.Common.{◌≡◌, ℕ, ◌^◌, ◌<◌, Bool, true, ◌&&◌, ltb, List, [], ◌∷◌, IsAscii, IsUtf8, None, Ok, Err, Result, MatchResult, decimal, sym, refl, subst, arith, lit<}
 use Rattle.std.proofs.lemmas.Str.Ascii.{IsAscii-nil, IsAscii-cons}
 use Rattle.std.proofs.lemmas.Fmt.{IsAscii-decimal}
 use Rattle.std.proofs.lemmas.Bool.{ltb-true, and_parts}
-use Rattle.std.proofs.lemmas.Str.{IsAscii-append}
+use Rattle.std.proofs.lemmas.Str.{IsAscii-append, IsUtf8-from_ascii}
+use Rattle.std.specs.Result.{result_ok}
 use Rattle.scripts.specs.Commands.{Fitting, command_text}
 use Rattle.scripts.specs.Numbers.{spaced}
 use Rattle.scripts.specs.Words.{word_text, word_of, arguments}
@@ -57,3 +58,8 @@ arguments_ascii (Closest budget) fits = IsAscii-decimal budget (omega arith)
 
 pub command_ascii : (c : Command) → Fitting c → IsAscii (command_text c)
 command_ascii c fits = subst IsAscii (sym (in_two c)) (IsAscii-append (word_text (word_of c)) (arguments c) (word_ascii (word_of c)) (arguments_ascii c fits))
+
+-- what is not UTF-8 is the text of no command
+pub no_text : {A E : Type 0} (line : List ℕ) (r : Result A E) (P : A → Type 0) (Q : E → Type 0) → result_ok r ≡ None → MatchResult r P (λ e. (IsUtf8 line → ⊥) × Q e) → (c : Command) → Fitting c → line ≡ command_text c → ⊥
+no_text line (Ok x) P Q none cases c fits e = let z : ◌≡◌ {A = ℕ} 0 1 = cc in omega arith
+no_text line (Err x) P Q none cases c fits e = cases.0 (subst IsUtf8 (sym e) (IsUtf8-from_ascii (command_text c) (command_ascii c fits)))

@@ -1,5 +1,5 @@
 -- Numbers with a space after them.
-use Rattle.std.proofs.Common.{◌≡◌, ℕ, suc, ◌^◌, ◌<◌, List, [], ◌∷◌, ◌++◌, length, get_or, Some, None, decimal, sym, refl, ap, ◌∙◌, subst, arith, lit<, Bor}
+use Rattle.std.proofs.Common.{◌≡◌, ℕ, suc, ◌^◌, ◌<◌, ◌≤◌, List, [], ◌∷◌, ◌++◌, length, get_or, Some, None, decimal, sym, refl, ap, ◌∙◌, arith, lit<, Bor}
 use Rattle.std.proofs.lemmas.Fmt.{decimal_injective}
 use Rattle.std.proofs.lemmas.Str.Pattern.{IsSplitOnceResult, split_after, split_parts}
 use Rattle.scripts.specs.Numbers.{Reads, Splits, spaced}
@@ -30,27 +30,20 @@ one_front t m n x y sm sn e f =
     let both = parted (decimal m) (decimal n) x y (no_space m sm) (no_space n sn) (sym e ∙ f) in
     (decimal_injective m n sm sn both.0, both.1)
 
-pub no_split : (t : List ℕ) → IsSplitOnceResult 32 t None → Splits (2 ^ 64) t None
-no_split t none n rest small e = split_after 32 t (decimal n) rest None none (lit< tt) e (no_space n small)
+module _ {A : Type 0} (value : A → ℕ) (limit : ℕ) where
+  pub no_split : limit ≤ 2 ^ 64 → (t : List ℕ) → IsSplitOnceResult 32 t None → Splits value limit t None
+  no_split within t none n rest fits e = split_after 32 t (decimal (value n)) rest None none (lit< tt) e (no_space (value n) (omega arith))
 
-pub split_no_number : (t : List ℕ) (w r : Bor (List ℕ)) → IsSplitOnceResult 32 t (Some (w, r)) → Reads decimal (λ n. n < 2 ^ 64) w.now None → Splits (2 ^ 64) t None
-split_no_number t w r split none n rest small e =
-    let parts = split_after 32 t (decimal n) rest (Some (w, r)) split (lit< tt) e (no_space n small) in
-    none n small parts.0
+  pub split_no_number : limit ≤ 2 ^ 64 → (t : List ℕ) (w r : Bor (List ℕ)) → IsSplitOnceResult 32 t (Some (w, r)) → Reads (λ n. decimal (value n)) (λ n. value n < limit) w.now None → Splits value limit t None
+  split_no_number within t w r split none n rest fits e =
+      let parts = split_after 32 t (decimal (value n)) rest (Some (w, r)) split (lit< tt) e (no_space (value n) (omega arith)) in
+      none n fits parts.0
 
-pub split_number : (t : List ℕ) (w r : Bor (List ℕ)) (n : ℕ) → IsSplitOnceResult 32 t (Some (w, r)) → Reads decimal (λ m. m < 2 ^ 64) w.now (Some n) → Splits (2 ^ 64) t (Some (n, r))
-split_number t w r n split reads =
-    let parts = split_parts 32 t (Some (w, r)) split (lit< tt) in
-    (reads.0, parts.0 ∙ ap (λ (l : List ℕ). l ++ 32 ∷ r.now) reads.1)
-
--- a number that is too large for 16 bits
-pub too_wide : (t : List ℕ) (n : ℕ) (r : Bor (List ℕ)) → Splits (2 ^ 64) t (Some (n, r)) → (n < 2 ^ 16 → ⊥) → Splits (2 ^ 16) t None
-too_wide t n r split above m rest fits e =
-    above (subst (λ (x : ℕ). x < 2 ^ 16) (one_front t m n rest r.now (omega arith) split.0 e split.1).0 fits)
+  pub split_number : (t : List ℕ) (w r : Bor (List ℕ)) (n : A) → IsSplitOnceResult 32 t (Some (w, r)) → Reads (λ m. decimal (value m)) (λ m. value m < limit) w.now (Some n) → Splits value limit t (Some (n, r))
+  split_number t w r n split reads =
+      let parts = split_parts 32 t (Some (w, r)) split (lit< tt) in
+      (reads.0, parts.0 ∙ ap (λ (l : List ℕ). l ++ 32 ∷ r.now) reads.1)
 
 -- what follows the first number, where another reading of the text begins with a number too
-pub follows : (t : List ℕ) (n m : ℕ) (r : Bor (List ℕ)) (x : List ℕ) → Splits (2 ^ 64) t (Some (n, r)) → m < 2 ^ 64 → t ≡ spaced m x → r.now ≡ x
-follows t n m r x split small e = (one_front t n m r.now x split.0 small split.1 e).1
-
-pub follows16 : (t : List ℕ) (n m : ℕ) (r : Bor (List ℕ)) (x : List ℕ) → Splits (2 ^ 16) t (Some (n, r)) → m < 2 ^ 16 → t ≡ spaced m x → r.now ≡ x
-follows16 t n m r x split small e = let fits = split.0 in follows t n m r x (omega arith, split.1) (omega arith) e
+pub follows : (limit : ℕ) → limit ≤ 2 ^ 64 → (t : List ℕ) (n m : ℕ) (r : Bor (List ℕ)) (x : List ℕ) → Splits {A = ℕ} (λ k. k) limit t (Some (n, r)) → m < limit → t ≡ spaced m x → r.now ≡ x
+follows limit within t n m r x split small e = (one_front t n m r.now x (omega (arith, split.0)) (omega arith) split.1 e).1

@@ -16,6 +16,6 @@ abbrev pub four_text : ℕ × ℕ × ℕ × ℕ → List ℕ
 four_text p = spaced p.0 (spaced p.1 (spaced p.2 (decimal p.3)))
 
 -- A number below a bound is split off with the space after it, and none where a text does not begin so.
-abbrev pub Splits : ℕ → List ℕ → Option (ℕ × Bor (List ℕ)) → Type 0
-Splits bound text (Some p) = (p.0 < bound) × (text ≡ spaced p.0 p.1.now)
-Splits bound text None = (n : ℕ) (rest : List ℕ) → n < bound → text ≢ spaced n rest
+abbrev pub Splits : {A : Type 0} → (A → ℕ) → ℕ → List ℕ → Option (A × Bor (List ℕ)) → Type 0
+Splits value bound text (Some p) = (value p.0 < bound) × (text ≡ spaced (value p.0) p.1.now)
+Splits {A} value bound text None = (n : A) (rest : List ℕ) → value n < bound → text ≢ spaced (value n) rest

@@ -2,7 +2,6 @@
 #![tactic(auto)]
 
 mod command;
-mod make;
 mod numbers;
 mod parse;
 mod places;

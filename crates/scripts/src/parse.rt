@@ -4,7 +4,7 @@ ghost use Rattle.scripts.specs.Numbers.{Reads};
 ghost use Rattle.scripts.specs.Words.{Begun, arguments};
 
 use super::command::Command;
-use super::numbers::{four_numbers, number8, number16, two_numbers};
+use super::numbers::{four_numbers, number, two_numbers};
 use super::places::Places;
 use super::word::{Word, split_word};
 use measure::Chosen;
@@ -12,15 +12,14 @@ use measure::Chosen;
 fn read_places(text: &str) -> Option<Places>
     ensures { Reads (λ p. decimal p.count) (λ p. p.count ≤ 256) text.now result }
 {
-    let count = number16(text)?;
-    Places::new(count)
+    Places::new(number(text)?)
 }
 
 // The command of a word that no number follows.
 fn alone(command: Command, text: &str) -> Option<Command>
     ensures { MatchOption result (text.now ≢ []) (λ c. (c ≡ command) × (text.now ≡ [])) }
 {
-    if text.is_empty() { Some(command) } else { None }
+    text.is_empty().then_some(command)
 }
 
 // The command of a word and the numbers after it.
@@ -28,10 +27,9 @@ fn read_command(word: Word, text: &str) -> Option<Command>
     ensures { Reads arguments (Begun word) text.now result }
 {
     match word {
-        Word::Kind => {
-            let number = number16(text)?;
-            Some(Command::Kind { number })
-        }
+        Word::Kind => Some(Command::Kind {
+            number: number(text)?,
+        }),
         Word::MeasureLine => alone(
             Command::Measure {
                 chosen: Chosen::Line,
@@ -44,14 +42,12 @@ fn read_command(word: Word, text: &str) -> Option<Command>
             },
             text,
         ),
-        Word::Rows => {
-            let places = read_places(text)?;
-            Some(Command::Rows { places })
-        }
-        Word::List => {
-            let places = read_places(text)?;
-            Some(Command::List { places })
-        }
+        Word::Rows => Some(Command::Rows {
+            places: read_places(text)?,
+        }),
+        Word::List => Some(Command::List {
+            places: read_places(text)?,
+        }),
         Word::Open => {
             let (width, height, col, row) = four_numbers(text)?;
             Some(Command::Open {
@@ -61,10 +57,9 @@ fn read_command(word: Word, text: &str) -> Option<Command>
                 row,
             })
         }
-        Word::Extend => {
-            let direction = number8(text)?;
-            Some(Command::Extend { direction })
-        }
+        Word::Extend => Some(Command::Extend {
+            direction: number(text)?,
+        }),
         Word::Retract => alone(Command::Retract, text),
         Word::LeastPriced => {
             let (top, bottom) = two_numbers(text)?;
@@ -76,10 +71,9 @@ fn read_command(word: Word, text: &str) -> Option<Command>
             Some(Command::Cheapest { top, bottom })
         }
         Word::Finest => alone(Command::Finest, text),
-        Word::Closest => {
-            let budget = number16(text)?;
-            Some(Command::Closest { budget })
-        }
+        Word::Closest => Some(Command::Closest {
+            budget: number(text)?,
+        }),
     }
 }
 
@@ -94,8 +88,6 @@ fn read_text(line: &str) -> Option<Command>
 pub fn parse_line(line: &[u8]) -> Option<Command>
     ensures { Reads command_text Fitting line.now result }
 {
-    match std::str::from_utf8(line) {
-        Ok(text) => read_text(text),
-        Err(_) => None,
-    }
+    let text = std::str::from_utf8(line).ok()?;
+    read_text(text)
 }

@@ -4,7 +4,6 @@ ghost use Rattle.std.specs.Prelude.{Some};
 
 use super::command::Command;
 use super::reply::{Reply, Vertices};
-use measure::Chosen;
 use std::fmt;
 
 impl fmt::Display for Command {
@@ -13,18 +12,9 @@ impl fmt::Display for Command {
     fn fmt<W: fmt::Write>(&self, f: &mut fmt::Formatter<W>) -> fmt::Result {
         match *self {
             Command::Kind { number } => write!(f, "kind {number}"),
-            Command::Measure { chosen } => match chosen {
-                Chosen::Line => f.write_str("measure line"),
-                Chosen::Pace => f.write_str("measure pace"),
-            },
-            Command::Rows { places } => {
-                let count = places.count();
-                write!(f, "rows {count}")
-            }
-            Command::List { places } => {
-                let count = places.count();
-                write!(f, "list {count}")
-            }
+            Command::Measure { chosen } => write!(f, "measure {chosen}"),
+            Command::Rows { places } => write!(f, "rows {}", places.count()),
+            Command::List { places } => write!(f, "list {}", places.count()),
             Command::Open {
                 width,
                 height,
@@ -54,25 +44,16 @@ impl fmt::Display for Reply {
     fn fmt<W: fmt::Write>(&self, f: &mut fmt::Formatter<W>) -> fmt::Result {
         match *self {
             Reply::Accepted => f.write_str("accepted"),
-            Reply::Refused { number } => write!(f, "refused {number}"),
+            Reply::Refused(refusal) => write!(f, "refused {}", refusal.number()),
             Reply::Priced {
                 vertices,
                 bits,
                 deviation,
-            } => {
-                let (top, bottom) = (deviation.top(), deviation.bottom());
-                write!(
-                    f,
-                    "vertices {vertices} bits {bits} deviation {top}/{bottom}"
-                )
-            }
+            } => write!(f, "vertices {vertices} bits {bits} deviation {deviation}"),
             Reply::Straying {
                 vertices,
                 deviation,
-            } => {
-                let (top, bottom) = (deviation.top(), deviation.bottom());
-                write!(f, "vertices {vertices} deviation {top}/{bottom}")
-            }
+            } => write!(f, "vertices {vertices} deviation {deviation}"),
             Reply::NoCall { line } => write!(f, "line {line} is no call"),
         }
     }

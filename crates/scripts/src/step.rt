@@ -1,21 +1,22 @@
-ghost use Rattle.std.specs.Prelude.{◌≤◌, length};
+ghost use Rattle.coding.specs.Kinds.{kind_table};
+ghost use Rattle.measure.specs.Choice.{chosen_strays};
 ghost use Rattle.measure.specs.Fractions.{fraction};
+ghost use Rattle.replay.specs.Right.{tools};
 ghost use Rattle.scripts.specs.Sessions.{NewSession, Asked, Answers, KindSet, PricedAsked, LineAnswered, straying_tools};
-ghost use Rattle.scripts.specs.Replies.{told_straying};
+ghost use Rattle.scripts.specs.Replies.{told_straying, replied};
 
 use super::command::Command;
-use super::make::{make, unreached};
 use super::parse::parse_line;
 use super::places::Places;
-use super::replies::{refused, reply_of};
+use super::replies::{Told, reply};
 use super::reply::Reply;
 use super::session::Session;
 use coding::Kind;
-use cost::bits::Bits;
+use graph::Row;
 use measure::Chosen;
-use outline::Outline;
-use replay::Call;
-use weighing::{Priced, Straying};
+use outline::{Outline, Refusal};
+use replay::{Call, make_call};
+use weighing::{Priced, Straying, Weigher};
 
 impl Session {
     // A new outline, flat codes, the measure line, and memory for a full outline.
@@ -31,61 +32,97 @@ impl Session {
         }
     }
 
-    fn set_kind(&mut self, number: u16) -> Reply
-        ensures { KindSet self.old number result self.new }
+    fn set_kind(&mut self, number: u16) -> Result<Reply, Refusal>
+        ensures { KindSet self.old number (replied result) self.new }
     {
-        match Kind::from_number(number) {
-            Ok(kind) => {
-                self.kind = kind;
-                Reply::Accepted
-            }
-            Err(refusal) => refused(refusal),
-        }
+        self.kind = Kind::try_from(number)?;
+        Ok(Reply::Accepted)
+    }
+
+    // Makes a call with the session's codes, measure and lent memory, and with a weigher for least.
+    fn ask<W: Weigher>(
+        &mut self,
+        weigher: &W,
+        call: Call,
+        own: &mut [Row<W::Cost>; 256],
+    ) -> Result<Reply, Refusal>
+    where
+        W::Cost: Told,
+        ensures { Asked (tools W.Cost.Cost.cost (W.Weigher.weight weigher.now) (kind_table self.old.kind) (chosen_strays self.old.measure)) W.Cost.Told.tell self.old call (replied result) self.new }
+    {
+        let rows = usize::from(self.rows.count());
+        let mut list = [0; 256];
+        let lent = &mut list[..usize::from(self.list.count())];
+        let answer = make_call(
+            &mut self.outline,
+            weigher,
+            &self.kind,
+            &self.measure,
+            call,
+            &mut own[..rows],
+            &mut [Row::unreached(); 256][..rows],
+            &mut [Row::unreached(); 256][..rows],
+            lent,
+        );
+        reply(answer, lent)
     }
 
     // Makes a call; least with the straying weigher.
-    fn call(&mut self, call: Call, list: &mut [u16]) -> Reply
-        requires { 256 ≤ length list.old }
-        ensures { Asked (straying_tools self.old) told_straying self.old call result self.new }
+    fn call(&mut self, call: Call) -> Result<Reply, Refusal>
+        ensures { Asked (straying_tools self.old) told_straying self.old call (replied result) self.new }
     {
         let (kind, measure) = (self.kind, self.measure);
-        let lent = &mut list[0..self.list.count() as usize];
-        let weigher = Straying::new(&kind, &measure);
-        let answer = make(
-            &mut self.outline,
-            &weigher,
-            &kind,
-            &measure,
+        self.ask(
+            &Straying::new(&kind, &measure),
             call,
-            self.rows,
-            &mut unreached(),
-            lent,
-        );
-        reply_of(answer, lent)
+            &mut [Row::unreached(); 256],
+        )
     }
 
     // Makes least with the priced weigher.
-    fn least_priced(&mut self, top: u64, bottom: u64, list: &mut [u16]) -> Reply
-        requires { 256 ≤ length list.old }
-        ensures { PricedAsked self.old (fraction top bottom) result self.new }
+    fn least_priced(&mut self, top: u64, bottom: u64) -> Result<Reply, Refusal>
+        ensures { PricedAsked self.old (fraction top bottom) (replied result) self.new }
     {
         let (kind, measure) = (self.kind, self.measure);
-        let lent = &mut list[0..self.list.count() as usize];
-        match Priced::new(&kind, &measure, top, bottom) {
-            Ok(weigher) => {
-                let answer = make(
-                    &mut self.outline,
-                    &weigher,
-                    &kind,
-                    &measure,
-                    Call::Least,
-                    self.rows,
-                    &mut unreached(),
-                    lent,
-                );
-                reply_of(answer, lent)
+        let weigher = Priced::new(&kind, &measure, top, bottom)?;
+        self.ask(&weigher, Call::Least, &mut [Row::unreached(); 256])
+    }
+
+    fn follow(&mut self, command: Command) -> Result<Reply, Refusal>
+        ensures { Answers self.old command (replied result) self.new }
+    {
+        match command {
+            Command::Kind { number } => self.set_kind(number),
+            Command::Measure { chosen } => {
+                self.measure = chosen;
+                Ok(Reply::Accepted)
             }
-            Err(refusal) => refused(refusal),
+            Command::Rows { places } => {
+                self.rows = places;
+                Ok(Reply::Accepted)
+            }
+            Command::List { places } => {
+                self.list = places;
+                Ok(Reply::Accepted)
+            }
+            Command::Open {
+                width,
+                height,
+                col,
+                row,
+            } => self.call(Call::Open {
+                width,
+                height,
+                col,
+                row,
+            }),
+            Command::Extend { direction } => self.call(Call::Extend { direction }),
+            Command::Retract => self.call(Call::Retract),
+            Command::LeastPriced { top, bottom } => self.least_priced(top, bottom),
+            Command::LeastStraying => self.call(Call::Least),
+            Command::Cheapest { top, bottom } => self.call(Call::Cheapest { top, bottom }),
+            Command::Finest => self.call(Call::Finest),
+            Command::Closest { budget } => self.call(Call::Closest { budget }),
         }
     }
 
@@ -93,46 +130,8 @@ impl Session {
     pub fn step(&mut self, command: Command) -> Reply
         ensures { Answers self.old command result self.new }
     {
-        let mut list = [0; 256];
-        match command {
-            Command::Kind { number } => self.set_kind(number),
-            Command::Measure { chosen } => {
-                self.measure = chosen;
-                Reply::Accepted
-            }
-            Command::Rows { places } => {
-                self.rows = places;
-                Reply::Accepted
-            }
-            Command::List { places } => {
-                self.list = places;
-                Reply::Accepted
-            }
-            Command::Open {
-                width,
-                height,
-                col,
-                row,
-            } => {
-                let open = Call::Open {
-                    width,
-                    height,
-                    col,
-                    row,
-                };
-                self.call(open, &mut list)
-            }
-            Command::Extend { direction } => self.call(Call::Extend { direction }, &mut list),
-            Command::Retract => self.call(Call::Retract, &mut list),
-            Command::LeastPriced { top, bottom } => self.least_priced(top, bottom, &mut list),
-            Command::LeastStraying => self.call(Call::Least, &mut list),
-            Command::Cheapest { top, bottom } => self.call(
-                Call::Cheapest { top, bottom },
-                &mut list,
-            ),
-            Command::Finest => self.call(Call::Finest, &mut list),
-            Command::Closest { budget } => self.call(Call::Closest { budget }, &mut list),
-        }
+        self.follow(command)
+            .unwrap_or_else(|refusal| Reply::Refused(refusal))
     }
 
     // Answers a line of a script, of which it is told the number.

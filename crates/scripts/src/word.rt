@@ -62,8 +62,7 @@ impl Word {
 pub(crate) fn split_word(line: &str) -> Option<(Word, &str)>
     ensures { MatchOption result ((w : Word) (rest : List ℕ) → line.now ≢ word_text w ++ rest) (λ p. line.now ≡ word_text p.0 ++ p.1.now) }
 {
-    for i in 0..WORDS.len() {
-        let word = WORDS[i];
+    for word in WORDS {
         if let Some(rest) = line.strip_prefix(word.text()) {
             return Some((word, rest));
         }

@@ -1,5 +1,5 @@
 -- What the table of an outline's points says of its usable polygons.
-use Rattle.std.proofs.Common.{◌≡◌, ℕ, ◌-◌, ◌<◌, ◌≤◌, Bool, true, false, cond, List, length, take, drop, Some, None, Option, sym, refl, ap, ◌∙◌, subst, subst₂, arith}
+use Rattle.std.proofs.Common.{◌≡◌, ℕ, ◌-◌, ◌<◌, ◌≤◌, true, false, List, length, take, drop, Some, None, Option, sym, refl, ap, ◌∙◌, subst, subst₂, inr, arith}
 use Rattle.cost.specs.Cost.{CostOf, Laws}
 use Rattle.graph.proofs.Chains.{read_back_rising}
 use Rattle.graph.proofs.Least.{least_stands}
@@ -7,22 +7,21 @@ use Rattle.graph.proofs.Options.{not_both, nth_there, nth_take}
 use Rattle.graph.proofs.Reached.{reached_stands, read_back_stands}
 use Rattle.graph.specs.Paths.{ReadBack, PathTo}
 use Rattle.graph.specs.Paths.ReadBack.{first, next}
-use Rattle.graph.specs.Rows.{Shallow, Table}
+use Rattle.graph.specs.Rows.{Shallow, Table, Filled}
 use Rattle.graph.specs.declared.Row.{Row}
-use Rattle.std.proofs.iter.runs.Lists.{none-some, same_Some}
+use Rattle.std.proofs.lemmas.Option.{cond_some, none-some}
 use Rattle.std.proofs.lemmas.List.{length-take-le, take_at}
 use Rattle.std.proofs.lemmas.Bool.{cond-true}
+use Rattle.outline.specs.declared.refusal.Refusal.TheVariants.{NoUsable}
 use Rattle.std.specs.List.{slice_get}
+use Rattle.std.specs.Option.{ok_or}
 use Rattle.weighing.specs.Weights.{polygon_cost}
 use Rattle.search.proofs.Polygons.{rising_short}
 use Rattle.search.proofs.Prices.{usable_path, path_usable}
-use Rattle.search.specs.Best.{NoneUsable, Best, LeastCost}
-use Rattle.search.specs.Rules.{reached_cost, last_cost, ReadOut}
+use Rattle.search.specs.Best.{NoneUsable, Best, LeastCost, BestAnswered}
+use Rattle.search.specs.PointLaws.{shallow_points}
+use Rattle.search.specs.Rules.{reached_cost, last_cost, ReadOut, Answered}
 use Rattle.search.specs.declared.Found.{Found}
-
--- fewer than 257 places, in which only higher ones follow a place
-pub shallow_points : {W : Type 0} (n : ℕ) (weight : ℕ → ℕ → Option W) → n ≤ 256 → Shallow n weight (λ j. j)
-shallow_points n weight few = record { deeper = λ i j w l inside e. omega arith; most = λ j inside. omega arith }
 
 module _ {C : Type 0} where
   pub reached_made : (o : Option (Row C)) (row : Row C) → o ≡ Some row → row.reached ≡ true → reached_cost o ≡ Some row.cost
@@ -30,11 +29,7 @@ module _ {C : Type 0} where
 
   pub reached_parts : (o : Option (Row C)) (c : C) → reached_cost o ≡ Some c → (row : Row C) × (o ≡ Some row) × (row.reached ≡ true) × (row.cost ≡ c)
   reached_parts None c e = absurd (none-some c e)
-  reached_parts (Some row) c e = go row.reached refl e
-    where
-      go : (b : Bool) → row.reached ≡ b → cond b (Some row.cost) None ≡ Some c → (x : Row C) × (Some row ≡ Some x) × (x.reached ≡ true) × (x.cost ≡ c)
-      go false b h = absurd (none-some c h)
-      go true b h = (row, refl, b, same_Some row.cost c h)
+  reached_parts (Some row) c e = let parts = cond_some row.reached row.cost c e in (row, refl, parts.0, parts.1)
 
   module _ (n : ℕ) (rows : List (Row C)) where
     -- a list is read back from the first rows as from all
@@ -105,3 +100,11 @@ module _ {C W : Type 0} (k : CostOf C W) (weight : ℕ → ℕ → Option W) (n 
     best_found before after found so =
         let front_is : take found.vertices after ≡ so.0 = ap (take found.vertices) so.4 ∙ take_at so.0 (drop (length so.0) before) found.vertices so.2 in
         subst (λ vs. Best k weight n vs found.cost) (sym front_is) (best_read so.0 found.cost so.5 so.1)
+
+    -- what is read from the filled rows is the answer
+    pub read_answered : (rows_before : List (Row C)) (before after : List ℕ) (found : Option (Found C)) → n ≤ length before → Filled k weight n rows_before rows true → ReadOut n rows before after found →
+        Answered k weight n rows_before rows before after (ok_or found NoUsable) × BestAnswered k weight n after (ok_or found NoUsable)
+    read_answered rows_before before after None fits filled so =
+        let none = unread before fits so.0 in
+        (inr (inr (refl, fits, filled, none, so.1)), (refl, none_usable none))
+    read_answered rows_before before after (Some found) fits filled so = ((fits, filled, so), best_found before after found so)

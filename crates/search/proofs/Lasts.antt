@@ -1,11 +1,13 @@
 -- From the rows and the list that are read to what the rules say of them.
 use Rattle.std.proofs.Common.{◌≡◌, ℕ, ◌-◌, ◌<◌, ◌≤◌, Bool, true, false, cond, ltb, List, ◌++◌, length, get_or, drop, Some, None, Ok, Err, sym, refl, ap, ◌∙◌, subst, arith}
 use Rattle.graph.proofs.Chains.{read_back_reached, read_back_inside}
-use Rattle.graph.proofs.Options.{nth_is, same_value}
+use Rattle.graph.proofs.Options.{same_value}
 use Rattle.graph.specs.Paths.{ReadBack, Listed}
 use Rattle.graph.specs.declared.Row.{Row}
 use Rattle.outline.specs.declared.refusal.Refusal.TheVariants.{ListShort, RowsShort}
-use Rattle.std.proofs.lemmas.Bool.{ltb-false, cond-false}
+use Rattle.std.proofs.lemmas.Bool.{ltb-false}
+use Rattle.std.proofs.lemmas.Option.{slice_get_read}
+use Rattle.std.specs.Bool.{then_some}
 use Rattle.std.specs.List.{slice_get}
 use Rattle.search.proofs.Bests.{reached_made}
 use Rattle.search.specs.Rules.{room, reached_cost, last_cost, ReadOut}
@@ -24,13 +26,17 @@ module _ {C : Type 0} (n m : ℕ) (number : m ≡ n) (rows : List (Row C)) where
 
   module _ (row : Row C) (inside : m - 1 < length rows) (read : row ≡ get_or rows (m - 1) row) where
     last_row : slice_get rows (n - 1) ≡ Some row
-    last_row = sym last_is ∙ nth_is rows (m - 1) row inside read
+    last_row = sym last_is ∙ slice_get_read rows (length rows) (m - 1) row refl inside read
 
     pub reached_last : row.reached ≡ true → last_cost n rows ≡ Some row.cost
     reached_last r = reached_made (slice_get rows (n - 1)) row last_row r
 
-    pub unreached_last : row.reached ≡ false → last_cost n rows ≡ None
-    unreached_last r = ap reached_cost last_row ∙ cond-false row.reached (Some row.cost) None r
+    pub last_read : then_some row.reached row.cost ≡ last_cost n rows
+    last_read = go row.reached ∙ sym (ap reached_cost last_row)
+      where
+        go : (b : Bool) → then_some b row.cost ≡ cond b (Some row.cost) None
+        go true = refl
+        go false = refl
 
   module _ (before after : List ℕ) where
     pub unlisted : n ≤ 256 → Listed rows (m - 1) before after None → ReadOut n rows before after None
@@ -44,7 +50,7 @@ module _ {C : Type 0} (n m : ℕ) (number : m ≡ n) (rows : List (Row C)) where
     listed vertices row read so =
         let near = read_back_reached so.1 in
         let inside : m - 1 < length rows = read_back_inside so.1 in
-        let same : near.0 ≡ row = same_value (slice_get rows (m - 1)) near.0 row near.1 (nth_is rows (m - 1) row inside read) in
+        let same : near.0 ≡ row = same_value (slice_get rows (m - 1)) near.0 row near.1 (slice_get_read rows (length rows) (m - 1) row refl inside read) in
         let long = so.2 in
         let fits = so.3 in (
           so.0,

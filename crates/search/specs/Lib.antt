@@ -1,3 +1,4 @@
 pub mod Best
 pub mod Cheapest
 pub mod Rules
+pub mod PointLaws

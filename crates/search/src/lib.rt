@@ -40,8 +40,5 @@ pub fn least<W: Weigher>(
 {
     check_room(outline, rows.len(), list.len())?;
     fill_rows(weigher, outline, rows)?;
-    match read_list(outline, rows, list) {
-        Some(found) => Ok(found),
-        None => Err(Refusal::NoUsable),
-    }
+    read_list(outline, rows, list).ok_or(Refusal::NoUsable)
 }

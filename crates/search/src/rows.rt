@@ -2,6 +2,7 @@
 ghost use Rattle.std.specs.Prelude.{◌≡◌, ◌<◌, length, MatchResult};
 ghost use Rattle.outline.specs.Plain.{plain};
 ghost use Rattle.search.specs.Best.{LeastCost};
+ghost use Rattle.search.specs.PointLaws.{few_in_outline, shallow_in_outline};
 ghost use Rattle.search.specs.Rules.{room, RowsFilled};
 
 use graph::{Graph, Row, fill};
@@ -34,6 +35,10 @@ impl<'a, 'b, W: Weigher> Graph for Edges<'a, 'b, W> {
     fn edge(&self, from: usize, to: usize) -> Option<W::Weight> {
         self.weigher.weight(self.outline, from, to)
     }
+
+    ghost few = { λ g. few_in_outline g.outline.now };
+
+    ghost shallow = { λ g. shallow_in_outline g.outline.now (W.Weigher.weight g.weigher.now (plain g.outline.now).points) };
 }
 
 // A search wants a row and a list place for each point.
@@ -58,13 +63,7 @@ pub fn fill_rows<W: Weigher>(
     ensures rule { RowsFilled W.Cost.Cost.cost (W.Weigher.weight weigher.now (plain outline.now).points) (length (plain outline.now).points) rows.old rows.new result }
     ensures best { MatchResult result (λ cost. LeastCost W.Cost.Cost.cost (W.Weigher.weight weigher.now (plain outline.now).points) (length (plain outline.now).points) cost) (λ _. length rows.old < length (plain outline.now).points) }
 {
-    if !fill(&Edges { weigher, outline }, rows) {
-        return Err(Refusal::RowsShort);
-    }
+    fill(&Edges { weigher, outline }, rows).map_err(|_| Refusal::RowsShort)?;
     let last = rows[outline.len() - 1];
-    if last.reached {
-        Ok(Some(last.cost))
-    } else {
-        Ok(None)
-    }
+    Ok(last.reached.then_some(last.cost))
 }

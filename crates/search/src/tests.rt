@@ -27,11 +27,7 @@ impl Cost for Longest {
 
     fn join(self, weight: usize) -> Longest {
         Longest {
-            edge: if self.edge < weight {
-                weight
-            } else {
-                self.edge
-            },
+            edge: self.edge.max(weight),
         }
     }
 
@@ -64,6 +60,8 @@ impl Weigher for Spans {
             None
         }
     }
+
+    ghost edges = { λ s ps i j out. Prim.search rules };
 }
 
 const JUNK: Row<Longest> = Row {
@@ -87,10 +85,7 @@ fn longest_edge(spans: &Spans, outline: &Outline, between: u8) -> Option<usize> 
     let mut from = 0;
     for to in 1..6usize {
         if to == 5 || (between >> to) & 1 == 1 {
-            let span = spans.weight(outline, from, to)?;
-            if longest < span {
-                longest = span;
-            }
+            longest = longest.max(spans.weight(outline, from, to)?);
             from = to;
         }
     }
@@ -99,23 +94,13 @@ fn longest_edge(spans: &Spans, outline: &Outline, between: u8) -> Option<usize> 
 
 // The least of all polygons of six points, one by one.
 fn least_of_all(spans: &Spans, outline: &Outline) -> Option<usize> {
-    let mut least = None;
-    for between in 0..32u8 {
-        if let Some(new) = longest_edge(spans, outline, between) {
-            least = match least {
-                Some(old) => Some(if new < old { new } else { old }),
-                None => Some(new),
-            };
-        }
-    }
-    least
+    (0..32u8)
+        .filter_map(|between| longest_edge(spans, outline, between))
+        .min()
 }
 
 fn number(answer: Result<Found<Longest>, Refusal>) -> u8 {
-    match answer {
-        Ok(_) => 0,
-        Err(refusal) => refusal.number(),
-    }
+    answer.map_or_else(|refusal| refusal.number(), |_| 0)
 }
 
 #[test]
@@ -125,11 +110,11 @@ fn the_least_of_all_polygons(rt: HostRuntime) {
         for off in 0..7 {
             let spans = Spans { reach, off };
             let mut list = [9; 6];
-            let found = match least(&spans, &outline, &mut [JUNK; 6], &mut list) {
-                Ok(found) => Some(found.cost.edge),
-                Err(_) => None,
-            };
-            assert_eq!(rt; found, least_of_all(&spans, &outline));
+            let found = least(&spans, &outline, &mut [JUNK; 6], &mut list).ok();
+            assert_eq!(rt;
+                found.map(|found| found.cost.edge),
+                least_of_all(&spans, &outline)
+            );
         }
     }
 }

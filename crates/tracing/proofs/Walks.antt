@@ -1,13 +1,16 @@
 -- Points that rules make an outline, and the walk along them.
-use Rattle.std.proofs.Common.{◌≡◌, ℕ, suc, ◌+◌, ◌-◌, ◌<◌, ◌≤◌, ltb, leb, List, length, get_or, take, Some, Ok, Err, sym, ap, ◌∙◌, subst, ⊎_elim, arith}
+use Rattle.std.proofs.Common.{◌≡◌, ℕ, suc, ◌+◌, ◌-◌, ◌<◌, ◌≤◌, true, ltb, leb, List, length, get_or, take, ℤ, pos, Some, None, Ok, Err, Option, Result, is_some, sym, refl, ap, ◌∙◌, subst, subst₂, ⊎_elim, arith, MatchOption}
+use Rattle.std.specs.List.{AllWithin, HoldsAt}
+use Rattle.std.specs.Result.{result_ok}
+use Rattle.outline.specs.declared.outline.Outline.{Outline}
 use mathlib.Core.Logic.{∥∥₁_elim}
 use Rattle.std.proofs.lemmas.List.{take_more, get_or-take, length-take-le}
 use Rattle.std.proofs.lemmas.Bool.{cases_lt, cond-true, cond-false, le-ltb, lt-leb, le-leb}
 use Rattle.outline.specs.declared.point.Point.{Point}
 use Rattle.outline.specs.declared.refusal.Refusal.TheVariants.{Full}
 use Rattle.outline.specs.Held.{origin, Follows}
-use Rattle.outline.specs.Moves.{moved}
-use Rattle.outline.specs.Plain.{extended, stepped, last_point, answer}
+use Rattle.outline.specs.Moves.{displaced, moved, moves}
+use Rattle.outline.specs.Plain.{plain, extended, stepped, last_point, answer}
 use Rattle.outline.specs.Rules.{Rules}
 use Rattle.tracing.specs.Tracing.{in_largest}
 
@@ -36,8 +39,23 @@ extended_room ps k d x l small e =
     (cases_lt k 256)
 
 -- where no direction leads on, the points are no outline
-pub stuck : (ps : List Point) (k : ℕ) → 1 ≤ k → k < length ps → ((d : ℕ) → d < 8 → moved 1024 1024 (get_or ps (k - 1) origin) d ≡ Some (get_or ps k origin) → ⊥) → Rules (in_largest ps) → ⊥
-stuck ps k some l none rules =
+pub stuck : (ps : List Point) (k : ℕ) (from to : Point) → 1 ≤ k → k < length ps → from ≡ get_or ps (k - 1) origin → to ≡ get_or ps k origin → ((d : ℕ) → d < 8 → moved 1024 1024 from d ≡ Some to → ⊥) → Rules (in_largest ps) → ⊥
+stuck ps k from to some l first second none rules =
     let next : suc (k - 1) ≡ k = omega arith in
     let follows : Follows 1024 1024 (get_or ps (k - 1) origin) (get_or ps k origin) = subst (λ i. Follows 1024 1024 (get_or ps (k - 1) origin) (get_or ps i origin)) next (rules.traced (k - 1) (omega arith)) in
-    ∥∥₁_elim follows (λ x y. absurd x) (λ s. none s.0 s.1 s.2)
+    ∥∥₁_elim follows (λ x y. absurd x) (λ s. none s.0 s.1 (subst₂ (λ u v. moved 1024 1024 u s.0 ≡ Some v) (sym first) (sym second) s.2))
+
+-- the first of the moves that leads on is that of a direction
+pub direction_of : (from to : Point) (r : Option ℕ) → MatchOption r (AllWithin (λ (m : ℤ × ℤ). displaced 1024 1024 from m.0 m.1 ≡ Some to → ⊥) moves 0 8) (λ i. (i < 8) × HoldsAt (λ (m : ℤ × ℤ). displaced 1024 1024 from m.0 m.1 ≡ Some to) moves i × AllWithin (λ (m : ℤ × ℤ). displaced 1024 1024 from m.0 m.1 ≡ Some to → ⊥) moves 0 i)
+    → MatchOption r ((d : ℕ) → d < 8 → moved 1024 1024 from d ≡ Some to → ⊥) (λ d. (d < 8) × (moved 1024 1024 from d ≡ Some to))
+direction_of from to None none = λ d l. none d (pos 0, pos 0) (omega arith) l
+direction_of from to (Some i) h = (h.0, h.1 (pos 0, pos 0))
+
+pub ok_of : {T E : Type 0} (r : Result T E) (x : T) → Some x ≡ result_ok r → r ≡ Ok x
+ok_of (Ok y) x e = cc
+ok_of (Err f) x e = let z : ◌≡◌ {A = ℕ} 0 1 = cc in absurd (omega arith)
+
+-- the points of an outline are traced
+pub traced_some : (o : Option Outline) (ps : List Point) → Rules (in_largest ps) → MatchOption o (Rules (in_largest ps) → ⊥) (λ x. plain x ≡ in_largest ps) → is_some o ≡ true
+traced_some (Some x) ps rules h = refl
+traced_some None ps rules h = absurd (h rules)

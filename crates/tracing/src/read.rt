@@ -10,9 +10,7 @@ pub fn read_outline(bytes: &[u8]) -> Result<Outline, Fault>
 {
     let mut points = [Point { col: 0, row: 0 }; 256];
     let reading = read_chain(bytes, &mut points)?;
-    let vertices = reading.vertices;
-    let Some(outline) = trace(&points[0..vertices]) else {
-        unreachable()
-    };
+    // The vertices of a chain record are the points of an outline.
+    let outline = trace(&points[0..reading.vertices]).unwrap();
     Ok(outline)
 }

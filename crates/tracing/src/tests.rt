@@ -1,4 +1,5 @@
 use super::read::read_outline;
+use outline::Refusal;
 use records::{CoderFault, Fault, HeadFault};
 use std::test::Fail;
 
@@ -7,7 +8,7 @@ const L: [u8; 11] = [9, 0, 4, 0, 5, 0, 5, 0, 4, 0x03, 0x60];
 fn number(bytes: &[u8]) -> u8 {
     match read_outline(bytes) {
         Ok(_) => 0,
-        Err(fault) => fault.refusal().number(),
+        Err(fault) => Refusal::from(fault).number(),
     }
 }
 

@@ -1,7 +1,8 @@
 -- What the weight of an edge says of its price and its deviation.
-use Rattle.std.proofs.Common.{◌≡◌, ℕ, ◌<◌, ◌≤◌, Bool, true, false, cond, not, ◌&&◌, ltb, List, length, is_some, Some, None, Option, sym, refl, ap, ◌∙◌, subst, ⊎_elim, arith}
+use Rattle.std.proofs.Common.{◌≡◌, ℕ, ◌<◌, ◌≤◌, Bool, true, false, cond, not, ◌&&◌, ltb, List, length, is_some, Some, None, Option, sym, refl, ap, ◌∙◌, subst, ⊎_elim}
 use native.Mathlib.Decide.{dec_le}
-use Rattle.std.proofs.lemmas.Bool.{and_from, both_ways, cases_Bool, cond-false, cond-true, lt-ltb, not_from_false, not_from_true}
+use Rattle.std.proofs.lemmas.Bool.{and_from, both_ways, cases_Bool, cond-true, lt-ltb, not-true}
+use Rattle.std.proofs.lemmas.Option.{cond_some, none-some}
 use Rattle.std.specs.Option.{option_and, option_flatten, option_map, option_zip}
 use Rattle.outline.specs.declared.point.Point.{Point}
 use Rattle.cost.proofs.PriceLaws.{priced_some}
@@ -14,18 +15,15 @@ use Rattle.measure.specs.Fractions.{above}
 use Rattle.measure.specs.Measures.{Strays}
 use Rattle.weighing.specs.Edges.{displacement, edge_price}
 use Rattle.weighing.specs.Weighers.{priced_weight, straying_weight}
-use Rattle.weighing.proofs.EdgeLaws.{no_price, straying_edges}
+use Rattle.weighing.specs.EdgeLaws.{no_price, straying_edges}
 
 -- the price of an edge is that of its displacement
 pub edge_price_at : (codes : Table) (ps : List Point) (i j : ℕ) → i < j → j < length ps → edge_price codes ps i j ≡ price_of (codes (displacement ps i j).0 (displacement ps i j).1)
 edge_price_at codes ps i j rises inside = cond-true (ltb i j && ltb j (length ps)) _ None (and_from _ _ (lt-ltb i j rises) (lt-ltb j (length ps) inside))
 
-none-some : {X P : Type 0} (x : X) → None ≡ Some x → P
-none-some x e = let z : ◌≡◌ {A = ℕ} 0 1 = cc in absurd (omega arith)
-
 price_sized : (o : Option (List Bool)) → ((code : List Bool) → o ≡ Some code → (1 ≤ length code) × (length code ≤ 32)) → (n : ℕ) → price_of o ≡ Some n → (1 ≤ n) × (n ≤ 32)
 price_sized (Some code) sized n e = let same : length code ≡ n = cc in subst (λ m. (1 ≤ m) × (m ≤ 32)) same (sized code refl)
-price_sized None sized n e = none-some n e
+price_sized None sized n e = absurd (none-some n e)
 
 -- a price is 1 to 32
 pub edge_price_sized : (codes : Table) → Codes codes → (ps : List Point) (i j n : ℕ) → edge_price codes ps i j ≡ Some n → (1 ≤ n) × (n ≤ 32)
@@ -34,7 +32,7 @@ edge_price_sized codes laws ps i j n e =
     let d = displacement ps i j in
     ⊎_elim
     (λ t. price_sized (codes d.0 d.1) (laws.sized d.0 d.1) n (sym (cond-true test _ None t) ∙ e))
-    (λ f. none-some n (sym (no_price codes ps i j f) ∙ e))
+    (λ f. absurd (none-some n (sym (no_price codes ps i j f) ∙ e)))
     (cases_Bool test)
 
 priced_back : (n : ℕ) (p : Price) → priced n ≡ Some p → n ≡ p.bits
@@ -42,12 +40,12 @@ priced_back n p e = go (dec_le 1 n) (dec_le n 32) e
   where
     go : (a : Dec (1 ≤ n)) (b : Dec (n ≤ 32)) → (elim a as (λ _. Option Price) [ yes some ↦ elim b as (λ _. Option Price) [ yes few ↦ Some (record { bits = n; some = some; few = few }) | no _ ↦ None ] | no _ ↦ None ]) ≡ Some p → n ≡ p.bits
     go (yes a) (yes b) h = let q : Price = record { bits = n; some = a; few = b } in let same : q ≡ p = cc in ap (λ (x : Price). x.bits) same
-    go (yes a) (no b) h = none-some p h
-    go (no a) b h = none-some p h
+    go (yes a) (no b) h = absurd (none-some p h)
+    go (no a) b h = absurd (none-some p h)
 
 bits_back : (o : Option ℕ) (p : Price) → option_flatten (option_map priced o) ≡ Some p → o ≡ Some p.bits
 bits_back (Some n) p e = ap Some (priced_back n p e)
-bits_back None p e = none-some p e
+bits_back None p e = absurd (none-some p e)
 
 bits_have : (o : Option ℕ) → ((n : ℕ) → o ≡ Some n → (1 ≤ n) × (n ≤ 32)) → is_some (option_flatten (option_map priced o)) ≡ is_some o
 bits_have (Some n) sized =
@@ -58,14 +56,9 @@ bits_have None sized = refl
 
 kept_back : (t : Fraction) (o : Option Fraction) (d : Fraction) → kept_within t o ≡ Some d → (o ≡ Some d) × (above d t ≡ false)
 kept_back t (Some x) d e =
-    ⊎_elim
-    (λ h. none-some d (sym (cond-false (not (above x t)) (Some x) None (not_from_true (above x t) h)) ∙ e))
-    (λ h.
-    let is : Some x ≡ Some d = sym (cond-true (not (above x t)) (Some x) None (not_from_false (above x t) h)) ∙ e in
-    let same : x ≡ d = cc in
-    (is, ap (λ y. above y t) (sym same) ∙ h))
-    (cases_Bool (above x t))
-kept_back t None d e = none-some d e
+    let parts = cond_some (not (above x t)) x d e in
+    (ap Some parts.1, ap (λ y. above y t) (sym parts.1) ∙ not-true (above x t) parts.0)
+kept_back t None d e = absurd (none-some d e)
 
 cond_has : {X : Type 0} (b : Bool) (x : X) → is_some (cond b (Some x) None) ≡ b
 cond_has true x = refl
@@ -80,8 +73,8 @@ zipped_back {X = X} {Y = Y} (Some u) (Some v) q e =
     let pair : X × Y = (u, v) in
     let same : pair ≡ q = cc in
     (ap (λ (p : X × Y). Some p.0) same, ap (λ (p : X × Y). Some p.1) same)
-zipped_back (Some u) None q e = none-some q e
-zipped_back None b q e = none-some q e
+zipped_back (Some u) None q e = absurd (none-some q e)
+zipped_back None b q e = absurd (none-some q e)
 
 zipped_has : {X Y : Type 0} (a : Option X) (b : Option Y) → is_some (option_zip a b) ≡ (is_some a && is_some b)
 zipped_has (Some u) (Some v) = refl
@@ -90,7 +83,7 @@ zipped_has None b = refl
 
 other_back : {X Y : Type 0} (a : Option X) (b : Option Y) (y : Y) → option_and a b ≡ Some y → b ≡ Some y
 other_back (Some u) b y e = e
-other_back None b y e = none-some y e
+other_back None b y e = absurd (none-some y e)
 
 other_has : {X Y : Type 0} (a : Option X) (b : Option Y) → is_some b ≡ true → is_some (option_and a b) ≡ is_some a
 other_has (Some u) b h = h

@@ -1,4 +1,3 @@
 pub mod Costs
-pub mod EdgeLaws
 pub mod EdgeWeights
 pub mod Usable

@@ -3,3 +3,4 @@ pub mod Edges
 pub mod Weighers
 pub mod Weights
 pub mod DeviationLaws
+pub mod EdgeLaws

@@ -1,6 +1,7 @@
 ghost use Rattle.std.specs.Prelude.{◌≡◌, Some, None, MatchResult};
 ghost use Rattle.measure.specs.Fractions.{fraction};
 ghost use Rattle.outline.specs.declared.refusal.Refusal.TheVariants.{Tolerance};
+ghost use Rattle.weighing.specs.EdgeLaws.{priced_edges};
 ghost use Rattle.weighing.specs.Weighers.{priced_weight};
 
 use super::deviation::Deviation;
@@ -31,12 +32,17 @@ impl<'a, C: Coder, M: Measure> Priced<'a, C, M> {
     ) -> Result<Priced<'a, C, M>, Refusal>
         ensures { MatchResult result (λ p. (p.coder.now ≡ coder.now) × (p.measure.now ≡ measure.now) × (Some p.tolerance ≡ fraction top bottom)) (λ e. (e ≡ Tolerance) × (fraction top bottom ≡ None)) }
     {
-        let tolerance = Fraction::new(top, bottom)?;
-        Ok(Priced {
+        Ok(Priced::within(coder, measure, Fraction::new(top, bottom)?))
+    }
+
+    pub fn within(coder: &'a C, measure: &'a M, tolerance: Fraction) -> Priced<'a, C, M>
+        ensures { (result.coder.now ≡ coder.now) × (result.measure.now ≡ measure.now) × (result.tolerance ≡ tolerance) }
+    {
+        Priced {
             coder,
             measure,
             tolerance,
-        })
+        }
     }
 }
 
@@ -53,4 +59,6 @@ impl<'a, C: Coder, M: Measure> Weigher for Priced<'a, C, M> {
         let deviation = deviation_within(self.measure, outline, i, j, self.tolerance)?;
         Some((price, deviation))
     }
+
+    ghost edges = { λ s. priced_edges (C.Coder.table s.coder.now) (M.Measure.strays s.measure.now) s.tolerance };
 }

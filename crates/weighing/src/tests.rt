@@ -33,10 +33,7 @@ fn is(f: Fraction, top: u64, bottom: u32) -> bool {
 }
 
 fn weighs(w: Option<(Price, Fraction)>, bits: u8, top: u64, bottom: u32) -> bool {
-    match w {
-        Some(w) => w.0.bits() == bits && is(w.1, top, bottom),
-        None => false,
-    }
+    w.is_some_and(|(price, deviation)| price.bits() == bits && is(deviation, top, bottom))
 }
 
 #[test]
@@ -59,10 +56,9 @@ fn straying_needs_a_code(rt: HostRuntime) -> Result<(), Fail> {
     let outline = corner()?;
     let straying = Straying::new(&Run, &Line);
     assert!(rt;
-        match straying.weight(&outline, 0, 4) {
-            Some(f) => is(f, 16, 8),
-            None => false,
-        }
+        straying
+            .weight(&outline, 0, 4)
+            .is_some_and(|f| is(f, 16, 8))
     );
     assert!(rt; edge_price(&Run, &outline, 0, 3).is_none());
     assert!(rt; straying.weight(&outline, 0, 3).is_none());
@@ -71,12 +67,7 @@ fn straying_needs_a_code(rt: HostRuntime) -> Result<(), Fail> {
 
 #[test]
 fn tolerance_is_refused(rt: HostRuntime) {
-    assert!(rt;
-        match Priced::new(&Run, &Line, 1, 0) {
-            Ok(_) => false,
-            Err(e) => e.number() == 4,
-        }
-    );
+    assert!(rt; Priced::new(&Run, &Line, 1, 0).is_err_and(|e| e == Refusal::Tolerance));
 }
 
 // 1/1 is below 2/1, and no longer after 3/1 joins both.

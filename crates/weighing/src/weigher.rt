@@ -14,8 +14,9 @@ pub trait Weigher {
 
     ghost weight: { Self → List PointOf → ℕ → ℕ → Option Self.Weight };
 
-    // Numbers other than i < j below the number of points get none.
     fn weight(&self, outline: &Outline, i: usize, j: usize) -> Option<Self::Weight>
-        ensures value { result ≡ weight self.now (plain outline.now).points i j }
-        ensures edges { EdgesOnly (weight self.now) };
+        ensures { result ≡ weight self.now (plain outline.now).points i j };
+
+    // Numbers other than i < j below the number of points get none.
+    ghost edges: { (w : Self) → EdgesOnly (weight w) };
 }

@@ -5,15 +5,15 @@ use Rattle.outline.specs.declared.call.Call.TheVariants.{Extend}
 use Rattle.std.proofs.lemmas.List.{drop_more}
 use Rattle.examples.proofs.outlines.outline_by.Goals as goal
 
-pub loop-i-preserved : goal.loop-i-preserved
-loop-i-preserved c =
+pub loop-direction-preserved : goal.loop-direction-preserved
+loop-direction-preserved c =
     let ds = c.args.directions.now in
-    let i = c.loop-i.i in
+    let i = c.loop-direction.direction-index in
     ap (λ p. after p (map Extend (drop (i + 1) ds))) c.extend.ensures.after
-    ∙ sym (ap (λ xs. after (plain c.loop-i.outline) (map Extend xs)) (drop_more ds i 0 c.loop-i-test.true))
-    ∙ c.loop-i.invariant
+    ∙ sym (ap (λ xs. after (plain c.loop-direction.outline) (map Extend xs)) (drop_more ds i 0 c.loop-direction-test.true))
+    ∙ c.loop-direction.invariant
 
 pub returns : goal.returns
 returns c =
     let ds = c.args.directions.now in
-    ap (λ (p : Plain). p.points) (sym (ap (λ xs. after (plain c.loop-i.outline) (map Extend xs)) (drop_of_length-le ds (omega arith))) ∙ c.loop-i.invariant)
+    ap (λ (p : Plain). p.points) (sym (ap (λ xs. after (plain c.loop-direction.outline) (map Extend xs)) (drop_of_length-le ds (omega arith))) ∙ c.loop-direction.invariant)

@@ -1,4 +1,4 @@
-use Rattle.std.proofs.Common.{take, Ok, Err, refl, ap, subst₂, arith, rules}
+use Rattle.std.proofs.Common.{take, Ok, ap, subst₂, arith}
 use Rattle.coding.specs.Kinds.{kind_number, kind_table}
 use Rattle.measure.specs.Choice.{chosen_strays}
 use Rattle.outline.proofs.Kept.{rules_of}
@@ -6,9 +6,6 @@ use Rattle.outline.specs.Plain.{plain}
 use Rattle.records.specs.Numbered.{Recorded}
 use Rattle.exchange.proofs.Written.{found_written}
 use Rattle.exchange.proofs.encoding.write_best.Goals as goal
-
-pub returns-in_err-found : goal.returns-in_err-found
-returns-in_err-found c = (c.best_polygon.new.list, Err _, c.in_err-found.ensures.best, (search rules, refl))
 
 pub returns : goal.returns
 returns c =
@@ -20,6 +17,7 @@ returns c =
     let before = c.args.buffer.now in
     let after = c.write_kind.new.buffer in
     let front = ap (λ m. take m list) (omega arith) in
-    let written = subst₂ (λ n vs. Recorded (kind_table k) n ps vs before after c.write_kind.result) c.number.ensures front c.write_kind.ensures.recorded in
-    let best = c.in_ok-found.ensures.best in
-    (list, Ok a, best, found_written k (kind_number k) (chosen_strays c.args.measure) c.args.goal ps (rules_of o).count.1 list before after a c.write_kind.result best written)
+    let written = subst₂ (λ n vs. Recorded (kind_table k) n ps vs before after c.write_kind.result) c.from.ensures front c.write_kind.ensures.recorded in
+    let few = (rules_of o).count.1 in
+    let best = c.in_ok-found.ensures.best few few in
+    (list, Ok a, best, found_written k (kind_number k) (chosen_strays c.args.measure) c.args.goal ps few list before after a c.write_kind.result best written)

@@ -1,6 +1,6 @@
-use Rattle.std.proofs.Common.{rules}
-use Rattle.std.proofs.lemmas.Slice.Eq.{bytes_eq-Decides}
+use Rattle.std.proofs.Common.{◌∙◌}
+use Rattle.exchange.proofs.Measures.{named_in}
 use Rattle.exchange.proofs.words.measure_named.Goals as goal
 
-pub returns-in_default : goal.returns-in_default
-returns-in_default c = search (rules, bytes_eq-Decides)
+pub returns : goal.returns
+returns c = c.ok.ensures.value ∙ named_in c.args.word.now c.parse.result c.parse.ensures.value

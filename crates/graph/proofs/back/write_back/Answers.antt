@@ -1,7 +1,7 @@
-use Rattle.std.proofs.Common.{◌≡◌, ◌+◌, ◌-◌, ◌^◌, ◌<◌, length, take, drop, sym, ◌∙◌, subst, arith, length-set}
+use Rattle.std.proofs.Common.{◌≡◌, ◌+◌, ◌-◌, ◌^◌, ◌<◌, length, take, drop, sym, refl, ◌∙◌, subst, arith, length-set}
 use Rattle.std.proofs.lemmas.List.{take_all, drop_all}
+use Rattle.std.proofs.lemmas.Option.{slice_get_read}
 use Rattle.graph.proofs.Chains.{read_back_inside, write_more}
-use Rattle.graph.proofs.Options.{nth_is}
 use Rattle.graph.specs.Paths.{ReadBack}
 use Rattle.graph.proofs.back.write_back.Goals as goal
 
@@ -36,7 +36,7 @@ loop-k-preserved g c =
     let small : at < 2 ^ 16 = near.0 in
     let inside = read_back_inside near.1 in
     let one : k ≡ (k - 1) + 1 = omega arith in
-    let here = nth_is rows at row inside c.index-rows-at.is in
+    let here = slice_get_read rows (length rows) at row refl inside c.index-rows-at.is in
     let more = write_more row vs list (k - 1) here (subst (λ n. ReadBack rows at (take n vs)) one near.1) (omega arith) (omega arith) (subst (λ n. drop n list ≡ drop n vs) one c.loop-k.invariant.4) in (
       vs,
       c.loop-k.invariant.1,

@@ -6,16 +6,19 @@ use Rattle.graph.proofs.search.fill.Goals as goal
 
 pub loop-to-preserved : goal.loop-to-preserved
 loop-to-preserved g c =
+    let k = g.G.Cost.Cost.cost in
+    let edge = g.G.Graph.edge c.args.graph.now in
     let rows = c.loop-to.rows in
-    let to = c.loop-to.to in (
+    let to = c.loop-to.to in
+    let next = c.row-next.result in (
       simp length-set (omega (arith, c.loop-to.invariant.0)),
-      table_more g.G.Cost.Cost.cost (g.G.Graph.edge c.args.graph.now) rows to (omega (arith, c.loop-to.invariant.0)) c.loop-to.invariant.1 c.row-next.result (omega (arith, c.loop-to.invariant.0)) c.row-next.ensures,
-      drop-set-lt c.places-places.result rows to c.row-next.result c.loop-to-test.true ∙ c.loop-to.invariant.2,
+      table_more k edge rows to next (omega (arith, c.loop-to.invariant.0)) c.loop-to.invariant.1 c.row-next.ensures,
+      drop-set-lt c.places-places.result rows to next c.loop-to-test.true ∙ c.loop-to.invariant.2,
     )
 
 pub returns : goal.returns
 returns g c =
-    let e = c.places-places.ensures.number in
+    let e = c.places-places.ensures in
     let rows = c.loop-to.rows in (
       omega arith,
       subst (λ n. Table g.G.Cost.Cost.cost (g.G.Graph.edge c.args.graph.now) (take n rows)) (omega arith) c.loop-to.invariant.1,

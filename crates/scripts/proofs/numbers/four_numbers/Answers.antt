@@ -1,6 +1,6 @@
-use Rattle.std.proofs.Common.{◌^◌, ◌<◌, decimal, sym, subst}
+use Rattle.std.proofs.Common.{◌^◌, ◌<◌, decimal, sym, subst, lit≤}
 use Rattle.scripts.specs.Numbers.{Reads, spaced, four_text}
-use Rattle.scripts.proofs.Splits.{follows16}
+use Rattle.scripts.proofs.Splits.{follows}
 use Rattle.scripts.proofs.numbers.four_numbers.Goals as goal
 
 pub returns-in_err-second : goal.returns-in_err-second
@@ -10,7 +10,7 @@ returns-in_err-second c =
     subst (Reads four_text (λ p. (p.0 < 2 ^ 16) × (p.1 < 2 ^ 16) × (p.2 < 2 ^ 16) × (p.3 < 2 ^ 16)) t) (sym c.from_residual-in_err-second.ensures)
     (λ p fits e.
     let rest = spaced p.2 (decimal p.3) in
-    c.in_err-second.ensures p.1 rest fits.1 (follows16 t f.first p.0 f.rest (spaced p.1 rest) f.ensures fits.0 e))
+    c.in_err-second.ensures p.1 rest fits.1 (follows (2 ^ 16) (lit≤ tt) t f.first p.0 f.rest (spaced p.1 rest) f.ensures fits.0 e))
 
 pub returns-in_err-third : goal.returns-in_err-third
 returns-in_err-third c =
@@ -20,8 +20,8 @@ returns-in_err-third c =
     subst (Reads four_text (λ p. (p.0 < 2 ^ 16) × (p.1 < 2 ^ 16) × (p.2 < 2 ^ 16) × (p.3 < 2 ^ 16)) t) (sym c.from_residual-in_err-third.ensures)
     (λ p fits e.
     let rest = spaced p.2 (decimal p.3) in
-    let after = follows16 t f.first p.0 f.rest (spaced p.1 rest) f.ensures fits.0 e in
-    c.in_err-third.ensures p.2 (decimal p.3) fits.2 (follows16 f.rest.now s.second p.1 s.rest rest s.ensures fits.1 after))
+    let after = follows (2 ^ 16) (lit≤ tt) t f.first p.0 f.rest (spaced p.1 rest) f.ensures fits.0 e in
+    c.in_err-third.ensures p.2 (decimal p.3) fits.2 (follows (2 ^ 16) (lit≤ tt) f.rest.now s.second p.1 s.rest rest s.ensures fits.1 after))
 
 pub returns-in_err-fourth : goal.returns-in_err-fourth
 returns-in_err-fourth c =
@@ -32,6 +32,6 @@ returns-in_err-fourth c =
     subst (Reads four_text (λ p. (p.0 < 2 ^ 16) × (p.1 < 2 ^ 16) × (p.2 < 2 ^ 16) × (p.3 < 2 ^ 16)) t) (sym c.from_residual-in_err-fourth.ensures)
     (λ p fits e.
     let rest = spaced p.2 (decimal p.3) in
-    let after = follows16 t f.first p.0 f.rest (spaced p.1 rest) f.ensures fits.0 e in
-    let later = follows16 f.rest.now s.second p.1 s.rest rest s.ensures fits.1 after in
-    c.in_err-fourth.ensures p.3 fits.3 (follows16 s.rest.now u.third p.2 u.rest (decimal p.3) u.ensures fits.2 later))
+    let after = follows (2 ^ 16) (lit≤ tt) t f.first p.0 f.rest (spaced p.1 rest) f.ensures fits.0 e in
+    let later = follows (2 ^ 16) (lit≤ tt) f.rest.now s.second p.1 s.rest rest s.ensures fits.1 after in
+    c.in_err-fourth.ensures p.3 fits.3 (follows (2 ^ 16) (lit≤ tt) s.rest.now u.third p.2 u.rest (decimal p.3) u.ensures fits.2 later))

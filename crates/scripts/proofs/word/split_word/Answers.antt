@@ -8,4 +8,4 @@ pub returns : goal.returns
 returns c w rest e =
     let p = placed w in
     let inside = p.1 in
-    c.loop-i.invariant p.0 (omega arith) rest (e ∙ ap (λ (u : Word). word_text u ++ rest) (sym p.2))
+    c.loop-word.invariant p.0 (omega arith) rest (e ∙ ap (λ (u : Word). word_text u ++ rest) (sym p.2))

@@ -1,12 +1,20 @@
-use Rattle.std.proofs.Common.{◌≡◌, Some, arith, below_more}
-use Rattle.std.proofs.lemmas.Bool.{both_ways}
-use Rattle.outline.specs.Moves.{moved}
+use Rattle.std.proofs.Common.{◌≡◌, ℤ, Some, rules, tests}
+use Rattle.std.proofs.lemmas.Iterator.{IsFirst-from_position, YieldsList-from_slice}
+use Rattle.std.proofs.lemmas.Option.{MatchOption-at_some, MatchOption-at_none}
+use Rattle.outline.specs.Moves.{displaced, moves}
+use Rattle.tracing.proofs.Walks.{direction_of}
 use Rattle.tracing.proofs.steps.step.Goals as goal
 
-pub loop-d-preserved : goal.loop-d-preserved
-loop-d-preserved c =
-    below_more (λ d. moved 1024 1024 c.args.from d ≡ Some c.args.to → ⊥) c.loop-d.d c.loop-d.invariant
-    (λ e. both_ways c.leads.result c.if-leads.false (c.leads.ensures.1 e))
+pub returns-in_err-direction : goal.returns-in_err-direction
+returns-in_err-direction c =
+    let from = c.args.from in
+    let to = c.args.to in
+    let found = IsFirst-from_position _ _ _ (λ (m : ℤ × ℤ). displaced 1024 1024 from m.0 m.1 ≡ Some to) (λ (m : ℤ × ℤ). displaced 1024 1024 from m.0 m.1 ≡ Some to → ⊥) c.position.ensures.ran (YieldsList-from_slice moves c.iter.ensures.rest) (λ x q k. search (rules, tests)) (λ x q k. search (rules, tests)) in
+    rw c.from_residual.ensures (MatchOption-at_none _ _ c.in_err-direction.was (direction_of from to c.position.result found))
 
 pub returns : goal.returns
-returns c = λ d l. c.loop-d.invariant d (omega arith)
+returns c =
+    let from = c.args.from in
+    let to = c.args.to in
+    let found = IsFirst-from_position _ _ _ (λ (m : ℤ × ℤ). displaced 1024 1024 from m.0 m.1 ≡ Some to) (λ (m : ℤ × ℤ). displaced 1024 1024 from m.0 m.1 ≡ Some to → ⊥) c.position.ensures.ran (YieldsList-from_slice moves c.iter.ensures.rest) (λ x q k. search (rules, tests)) (λ x q k. search (rules, tests)) in
+    MatchOption-at_some _ _ c.in_ok-direction.direction c.in_ok-direction.was (direction_of from to c.position.result found)

@@ -1,14 +1,8 @@
 use Rattle.std.proofs.Common.{◌+◌, false, Some, sym, ap, ◌∙◌, arith}
 use Rattle.coding.specs.Bits.{bits_of}
 use Rattle.coding.specs.BitLists.{length_bits_of, bit_of}
-use Rattle.coding.specs.Views.{nth_view, nth_view_past}
+use Rattle.coding.specs.Views.{nth_view}
 use Rattle.coding.proofs.bit_row.BitRow.bit.Goals as goal
-
-pub returns-then-k-self : goal.returns-then-k-self
-returns-then-k-self c =
-    let r = c.args.self in
-    let bytes = r.bytes.now in
-    sym (nth_view_past r.from r.len c.args.k (bits_of bytes) (omega (arith, length_bits_of bytes, r.inside)) (omega arith))
 
 pub returns : goal.returns
 returns c =

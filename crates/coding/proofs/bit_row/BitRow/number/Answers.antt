@@ -1,24 +1,9 @@
-use Rattle.std.proofs.Common.{◌≡◌, ◌+◌, ◌*◌, ◌^◌, ◌<◌, Bool, true, false, cond, take, Some, sym, refl, ap, ◌∙◌, inl, inr, arith}
+use Rattle.std.proofs.Common.{◌≡◌, ◌+◌, ◌*◌, ◌^◌, ◌<◌, Bool, true, false, cond, take, Some, sym, refl, ap, ◌∙◌, arith}
 use mir.Val.{bool_byte}
-use Rattle.std.proofs.lemmas.Option.{slice_get-get_or}
 use Rattle.coding.specs.Bits.{value}
 use Rattle.coding.specs.Rows.{row_bits}
-use Rattle.coding.specs.Fields.{row_length, none-some, number_none, number_some, value_more, value_bound}
+use Rattle.coding.specs.Fields.{row_length, number_some, value_more, value_bound}
 use Rattle.coding.proofs.bit_row.BitRow.number.Goals as goal
-use Rattle.coding.proofs.bit_row.BitRow.number.Goals.{then-n-gt-WIDEST-via-then-n-gt-WIDEST, then-n-gt-WIDEST-via-else-n-gt-WIDEST+then-n-self}
-
-pub returns-then-n-gt-WIDEST : goal.returns-then-n-gt-WIDEST
-returns-then-n-gt-WIDEST c =
-    let row = row_bits c.args.self in
-    elim c.then-n-gt-WIDEST.branch [
-      | then-n-gt-WIDEST-via-then-n-gt-WIDEST w ↦ sym (number_none c.args.n row (inl w.if-n-gt-WIDEST.true))
-      | then-n-gt-WIDEST-via-else-n-gt-WIDEST+then-n-self w ↦ sym (number_none c.args.n row (inr (omega (arith, row_length c.args.self, w.if-n-self.true))))
-    ]
-
-pub returns-in_err-bit : goal.returns-in_err-bit
-returns-in_err-bit c =
-    let row = row_bits c.args.self in
-    none-some _ (c.in_err-bit.ensures ∙ slice_get-get_or row c.loop-k.k false (omega (arith, row_length c.args.self)))
 
 module _ (c : goal.In_ok-bit) where
   more : 2 * c.loop-k.number + bool_byte c.in_ok-bit.bit ≡ value (take (c.loop-k.k + 1) (row_bits c.args.self))

@@ -2,15 +2,9 @@ use Rattle.std.proofs.Common.{sym, subst, arith}
 use Rattle.coding.specs.Kinds.{flat}
 use Rattle.coding.specs.Rows.{row_bits}
 use Rattle.coding.specs.Tables.{Reads}
-use Rattle.coding.specs.Fields.{number_is, number_short, begins_fits}
-use Rattle.coding.specs.Flats.{flat_is, flat_fields, flat_read}
+use Rattle.coding.specs.Fields.{number_is}
+use Rattle.coding.specs.Flats.{flat_fields, flat_read}
 use Rattle.coding.proofs.flat.FlatCoder.read.Goals as goal
-
-pub returns-in_err-bits : goal.returns-in_err-bits
-returns-in_err-bits c =
-    let row = row_bits c.args.row in
-    let short = number_short 22 row (omega arith) (sym c.in_err-bits.ensures) in
-    subst (Reads flat row) (sym c.from_residual.ensures) (λ x y code e b. omega (arith, (flat_is x y code e).3, begins_fits code row b))
 
 pub signed-requires : goal.signed-requires
 signed-requires c =

@@ -1,37 +1,41 @@
-use Rattle.std.proofs.Common.{◌≡◌, ℕ, ◌+◌, ◌-◌, ◌*◌, ◌^◌, ◌<◌, ◌≤◌, sym, ap, ◌∙◌, ap₂, arith}
+use Rattle.std.proofs.Common.{◌≡◌, ℕ, ◌+◌, ◌-◌, ◌*◌, ◌^◌, true, sym, ap, ap₂, ◌∙◌, arith}
+use Rattle.outline.specs.Directions.{direction_number}
 use Rattle.coding.specs.Kinds.{class, run_code}
-use Rattle.coding.specs.Legs.{leg_small, leg_code}
-use Rattle.coding.specs.Runs.{class_bounds, run_bits, run_at, run_length, run_value, run_small}
+use Rattle.coding.specs.Legs.{leg_small, leg_code, leg_no_code}
+use Rattle.coding.specs.Runs.{class_bounds, class_told, class_untold, run_bits, run_at, run_length, run_value}
 use Rattle.coding.proofs.run.RunCoder.code.Goals as goal
 
-some : (c : goal.Else-length-gt-LONGEST) → (c.in_ok-d.d < 8) × (1 ≤ c.in_ok-d.length)
-some c = leg_small run_code c.args.dx c.args.dy c.in_ok-d.d c.in_ok-d.length c.ranges.dx c.ranges.dy c.in_ok-d.ensures.value
+pub class-requires : goal.class-requires
+class-requires c =
+    let leg = c.in_ok-towards in
+    (leg_small run_code c.args.dx c.args.dy (direction_number leg.towards) leg.length c.ranges.dx c.ranges.dy leg.ensures.value).1
 
-pub class-below-requires : goal.class-below-requires
-class-below-requires c = ((some c).1, c.if-length-gt-LONGEST.false)
-
-top : (c : goal.After-highest-top) → c.highest-top.result ≡ 2 ^ class c.in_ok-d.length
-top c = c.highest-top.ensures ∙ ap (λ k. 2 ^ k) c.class-below.ensures
+pub returns-in_err-below : goal.returns-in_err-below
+returns-in_err-below c =
+    let leg = c.in_ok-towards in
+    let d = direction_number leg.towards in
+    c.from_residual-in_err-below.ensures ∙ leg_no_code run_code c.args.dx c.args.dy d leg.length c.ranges.dx c.ranges.dy leg.ensures.value (class_untold d leg.length c.in_err-below.ensures)
 
 pub overflow_sub-result : goal.overflow_sub-result
 overflow_sub-result c =
-    let told = leg_small run_code c.args.dx c.args.dy c.in_ok-d.d c.in_ok-d.length c.ranges.dx c.ranges.dy c.in_ok-d.ensures.value in
-    omega (arith, top c, (class_bounds c.in_ok-d.length told.1 c.if-length-gt-LONGEST.false).1)
-
-spells : (c : goal.After-highest-top) → (c.in_ok-d.d * 4 + c.class-below.result) * c.highest-top.result + (c.in_ok-d.length - c.highest-top.result) ≡ (c.in_ok-d.d * 4 + class c.in_ok-d.length) * 2 ^ class c.in_ok-d.length + (c.in_ok-d.length - 2 ^ class c.in_ok-d.length)
-spells c = ap₂ (λ (k t : ℕ). (c.in_ok-d.d * 4 + k) * t + (c.in_ok-d.length - t)) c.class-below.ensures (top c)
-
-pub overflow_add-result : goal.overflow_add-result
-overflow_add-result c =
-    let told = leg_small run_code c.args.dx c.args.dy c.in_ok-d.d c.in_ok-d.length c.ranges.dx c.ranges.dy c.in_ok-d.ensures.value in
-    omega (arith, spells c, run_small c.in_ok-d.d c.in_ok-d.length told.0 told.1 c.if-length-gt-LONGEST.false)
+    let leg = c.in_ok-towards in
+    let l = leg.length in
+    let small = leg_small run_code c.args.dx c.args.dy (direction_number leg.towards) l c.ranges.dx c.ranges.dy leg.ensures.value in
+    let told = class_told l c.in_ok-below.below c.in_ok-below.ensures in
+    let top : c.highest-top.result ≡ 2 ^ class l = c.highest-top.ensures ∙ ap (λ k. 2 ^ k) (sym told.1) in
+    omega (arith, top, (class_bounds l small.1 told.0).1)
 
 pub returns : goal.returns
 returns c =
-    let d = c.in_ok-d.d in
-    let l = c.in_ok-d.length in
-    let answer = c.in_ok-d.ensures.value in
-    let told = leg_small run_code c.args.dx c.args.dy d l c.ranges.dx c.ranges.dy answer in
-    leg_code run_code c.args.dx c.args.dy d l c.ranges.dx c.ranges.dy answer (run_bits d l) _ _ (run_at d l c.if-length-gt-LONGEST.false)
-    (spells c ∙ sym (run_value d l told.0 told.1 c.if-length-gt-LONGEST.false))
-    (ap (λ k. 5 + k) c.class-below.ensures ∙ sym (run_length d l))
+    let leg = c.in_ok-towards in
+    let d = direction_number leg.towards in
+    let l = leg.length in
+    let small = leg_small run_code c.args.dx c.args.dy d l c.ranges.dx c.ranges.dy leg.ensures.value in
+    let told = class_told l c.in_ok-below.below c.in_ok-below.ensures in
+    let top : c.highest-top.result ≡ 2 ^ class l = c.highest-top.ensures ∙ ap (λ k. 2 ^ k) (sym told.1) in
+    leg_code run_code c.args.dx c.args.dy d l c.ranges.dx c.ranges.dy leg.ensures.value true (run_bits d l) _ _ (run_at d l told.0)
+    (λ _.
+    ap (λ j. (j * 4 + c.in_ok-below.below) * c.highest-top.result + (l - c.highest-top.result)) c.from.ensures
+    ∙ ap₂ (λ (k t : ℕ). (d * 4 + k) * t + (l - t)) (sym told.1) top
+    ∙ sym (run_value d l small.0 small.1 told.0))
+    (ap (λ k. 5 + k) (sym told.1) ∙ sym (run_length d l))

@@ -1,21 +1,15 @@
-use Rattle.std.proofs.Common.{◌≡◌, ℕ, ◌+◌, ◌/◌, ◌%◌, ◌^◌, ◌<◌, ◌≤◌, Bool, List, length, take, drop, Some, sym, refl, ap, ◌∙◌, subst, arith, length-drop}
+use Rattle.std.proofs.Common.{◌≡◌, ℕ, ◌+◌, ◌/◌, ◌%◌, ◌^◌, ◌<◌, ◌≤◌, Bool, List, take, drop, Some, sym, refl, ap, ap₂, ◌∙◌, subst, arith, length-drop}
 use native.Mathlib.Nat.{pow-le-pow_right}
 use Rattle.coding.specs.Bits.{low_bits, front_number}
 use Rattle.coding.specs.Directions.{taken}
 use Rattle.coding.specs.Kinds.{by_direction, run_code}
 use Rattle.coding.specs.Rows.{row_bits}
 use Rattle.coding.specs.Tables.{Reads}
-use Rattle.coding.specs.Fields.{number_is, number_short, begins_fits}
+use Rattle.coding.specs.Fields.{number_is, number_short}
 use Rattle.coding.specs.Legs.{leg_read, leg_none}
-use Rattle.coding.specs.Runs.{run_bits, run_at, run_is, run_length, run_class, run_begins, run_ends}
+use Rattle.coding.specs.Runs.{run_bits, run_at, run_length, run_class, run_begins, run_ends}
+use Rattle.coding.specs.Straight.{number_told, number_untold}
 use Rattle.coding.proofs.run.RunCoder.read.Goals as goal
-
-pub returns-in_err-head : goal.returns-in_err-head
-returns-in_err-head c =
-    let row = row_bits c.args.row in
-    let short = number_short 5 row (omega arith) (sym c.in_err-head.ensures) in
-    subst (Reads (by_direction run_code) row) (sym c.from_residual.ensures)
-    (leg_none run_code row (λ d l code small some e b. omega (arith, ap length (sym (run_is d l code e).1) ∙ run_length d l, begins_fits code row b)))
 
 pub returns-in_err-low : goal.returns-in_err-low
 returns-in_err-low c =
@@ -42,6 +36,9 @@ module _ (row rest : List Bool) (h r : ℕ) (e : Some h ≡ front_number 5 row) 
 pub overflow_cast-head : goal.overflow_cast-head
 overflow_cast-head c = omega (arith, (number_is 5 (row_bits c.args.row) c.in_ok-head.head (sym c.in_ok-head.ensures)).1)
 
+pub returns-in_err-towards : goal.returns-in_err-towards
+returns-in_err-towards c = absurd (omega (arith, (number_is 5 (row_bits c.args.row) c.in_ok-head.head (sym c.in_ok-head.ensures)).1, number_untold _ _ c.try_from.ensures c.in_err-towards.ensures.value))
+
 pub overflow_add-highest : goal.overflow_add-highest
 overflow_add-highest c = omega (arith, short _ _ _ _ c.in_ok-head.ensures c.skip.ensures c.in_ok-low.ensures c.highest.result c.highest.ensures)
 
@@ -49,10 +46,7 @@ pub overflow_cast-highest : goal.overflow_cast-highest
 overflow_cast-highest c = omega (arith, short _ _ _ _ c.in_ok-head.ensures c.skip.ensures c.in_ok-low.ensures c.highest.result c.highest.ensures)
 
 pub displacement-dx-requires : goal.displacement-dx-requires
-displacement-dx-requires c =
-    let few = head _ _ _ _ c.in_ok-head.ensures c.skip.ensures c.in_ok-low.ensures in
-    let fits = short _ _ _ _ c.in_ok-head.ensures c.skip.ensures c.in_ok-low.ensures c.highest.result c.highest.ensures in
-    (omega (arith, few.0), omega (arith, fits))
+displacement-dx-requires c = omega (arith, short _ _ _ _ c.in_ok-head.ensures c.skip.ensures c.in_ok-low.ensures c.highest.result c.highest.ensures)
 
 pub returns : goal.returns
 returns c =
@@ -62,7 +56,8 @@ returns c =
     let few = head _ _ _ _ c.in_ok-head.ensures c.skip.ensures c.in_ok-low.ensures in
     let rest = low _ _ _ _ c.in_ok-head.ensures c.skip.ensures c.in_ok-low.ensures in
     let fits = short _ _ _ _ c.in_ok-head.ensures c.skip.ensures c.in_ok-low.ensures (2 ^ (h % 4)) refl in
+    let same = number_told (h / 4) c.try_from.result c.in_ok-towards.towards c.try_from.ensures c.in_ok-towards.ensures.value in
     let l = 2 ^ (h % 4) + r in
     leg_read run_code row (h / 4) l (5 + h % 4) c.displacement-dx.result (run_bits (h / 4) l) (omega (arith, few.0)) fits.0 (omega (arith, fits.1))
-    (c.displacement-dx.ensures ∙ ap (λ k. taken (h / 4) (k + r)) c.highest.ensures) (run_at (h / 4) l fits.1) (run_begins row h r few.0 few.1 rest.0 rest.1)
+    (c.displacement-dx.ensures ∙ ap₂ (λ (d k : ℕ). taken d (k + r)) same c.highest.ensures) (run_at (h / 4) l fits.1) (run_begins row h r few.0 few.1 rest.0 rest.1)
     (sym (run_length (h / 4) l ∙ ap (λ k. 5 + k) (run_class row h r few.0 few.1 rest.0)))

@@ -1,7 +1,9 @@
-use Rattle.std.proofs.Common.{set, ap, ◌∙◌, inl, inr, arith, length-set}
-use Rattle.outline.specs.Plain.{plain}
-use Rattle.outline.proofs.Kept.{rules_of}
-use Rattle.outline.proofs.Steps.{after_more, answers_more, ended}
+use Rattle.std.proofs.Common.{◌<◌, length, set, ap, ◌∙◌, arith, length-set, length-take}
+use Rattle.std.proofs.lemmas.List.{get_or-take}
+use Rattle.outline.specs.Plain.{plain, answer, left_by}
+use Rattle.outline.specs.Runs.{made}
+use Rattle.outline.specs.declared.call.Call.TheVariants.{Open}
+use Rattle.outline.proofs.Steps.{after_more, answers_more}
 use Rattle.outline.proofs.outline.Outline.run.Goals as goal
 
 pub loop-i-preserved : goal.loop-i-preserved
@@ -11,18 +13,12 @@ loop-i-preserved c =
     let old = c.args.answers.now in
     let i = c.loop-i.i in
     let q = plain c.loop-i.self in
-    let rs = c.loop-i.answers in (
+    let rs = c.loop-i.answers in
+    let n = c.min-made.result in
+    let within : (i < n) × (i < length cs) = omega (arith, length-take n cs, c.loop-i-test.true) in
+    let here = get_or-take n cs i (Open 0 0 0 0) within.0 in
+    let less : i < length old = omega arith in (
       simp length-set (omega arith),
-      c.call.ensures.after ∙ after_more p cs old i _ (omega arith) q c.loop-i.invariant.1,
-      ap (set rs i) c.call.ensures.said ∙ answers_more p cs old i _ (omega arith) q rs c.loop-i.invariant.1 (omega arith) c.loop-i.invariant.2,
+      c.call.ensures.after ∙ ap (λ x. left_by q (made q x)) here ∙ after_more p cs old i (Open 0 0 0 0) within.1 q c.loop-i.invariant.1,
+      ap (set rs i) (c.call.ensures.said ∙ ap (λ x. answer (made q x)) here) ∙ answers_more p cs old i (Open 0 0 0 0) within.1 q rs c.loop-i.invariant.1 less c.loop-i.invariant.2,
     )
-
-pub returns-after-loop-i : goal.returns-after-loop-i
-returns-after-loop-i c =
-    let both = ended (plain c.args.self.now) c.args.calls.now c.args.answers.now c.loop-i.i (plain c.loop-i.self) c.loop-i.answers (omega arith) (inl c.loop-i-test.false) (omega arith) c.loop-i.invariant.1 c.loop-i.invariant.2 in
-    record { after = both.0; said = both.1; rules = rules_of c.loop-i.self }
-
-pub returns-then-i-answers : goal.returns-then-i-answers
-returns-then-i-answers c =
-    let both = ended (plain c.args.self.now) c.args.calls.now c.args.answers.now c.loop-i.i (plain c.loop-i.self) c.loop-i.answers (omega arith) (inr (omega arith)) (omega arith) c.loop-i.invariant.1 c.loop-i.invariant.2 in
-    record { after = both.0; said = both.1; rules = rules_of c.loop-i.self }
