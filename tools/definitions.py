@@ -79,7 +79,7 @@ def contract_after(lines):
     for line in lines:
         if re.match(r"\s*ensures\b", line):
             contract.append(line.partition("{")[2])
-        if line.strip() == "{" or line.rstrip().endswith((";", "{")) and "λ" not in line.rstrip()[-3:]:
+        if line.strip() in ("{", "{}") or line.rstrip().endswith((";", "{")) and "λ" not in line.rstrip()[-3:]:
             break
     return "\n".join(contract)
 

@@ -1,5 +1,5 @@
 // Cheapest and finest against every polygon.
-use super::asked::{Asked, KEPT, PLACES, ask_finest};
+use super::asked::{Asked, KEPT, PLACES};
 use super::ratio::Ratio;
 use super::rows::rows_agree;
 use super::tally::ROOM;
@@ -7,7 +7,7 @@ use super::trial::{TOLERANCES, Trial};
 
 pub(crate) fn finest_agrees(trial: &Trial) -> bool {
     let mut list = [KEPT; PLACES];
-    let answer = ask_finest(&trial.outline, &trial.kind, &trial.measure, &mut list);
+    let answer = trial.ask_finest(&mut list);
     match (answer, trial.tally.closest(ROOM)) {
         (Err(26), None) => list == [KEPT; PLACES],
         (Ok(found), Some(best)) => {

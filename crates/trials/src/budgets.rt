@@ -1,12 +1,11 @@
 // Closest against every polygon.
-use super::asked::ask_closest;
 use super::tally::ROOM;
 use super::trial::{LARGEST, Trial};
 
 // What is answered and left is what cheapest at the deviation told answers and leaves. A refusal leaves the list, and the rows of
 // cheapest at the largest tolerance.
 fn closest_agrees(trial: &Trial, budget: u16) -> bool {
-    let asked = ask_closest(&trial.outline, &trial.kind, &trial.measure, budget);
+    let asked = trial.ask_closest(budget);
     match (asked.answer, trial.tally.closest(budget as usize)) {
         (Ok(told), Some(best)) => {
             trial.is_best(told, &asked.list, best)

@@ -1,10 +1,11 @@
-use super::asked::{Asked, KEPT, PLACES, Told, ask_cheapest};
+use super::asked::{Asked, KEPT, PLACES, Told, ask_cheapest, ask_closest, ask_finest};
 use super::edges::{Edges, Weight, all_edges, weigh};
 use super::ratio::Ratio;
 use super::tally::Tally;
 use coding::Kind;
-use measure::Chosen;
+use measure::{Chosen, Line, Pace};
 use outline::Outline;
+use search::StrayingPolygon;
 
 // The tolerance that keeps every edge.
 pub const LARGEST: Ratio = Ratio {
@@ -87,7 +88,24 @@ impl Trial {
             tolerance.top.unsigned_abs(),
             tolerance.bottom.unsigned_abs(),
         );
-        ask_cheapest(&self.outline, &self.kind, &self.measure, top, bottom)
+        match self.measure {
+            Chosen::Line => ask_cheapest(&self.outline, &self.kind, &Line, top, bottom),
+            Chosen::Pace => ask_cheapest(&self.outline, &self.kind, &Pace, top, bottom),
+        }
+    }
+
+    pub(crate) fn ask_closest(&self, budget: u16) -> Asked {
+        match self.measure {
+            Chosen::Line => ask_closest(&self.outline, &self.kind, &Line, budget),
+            Chosen::Pace => ask_closest(&self.outline, &self.kind, &Pace, budget),
+        }
+    }
+
+    pub(crate) fn ask_finest(&self, list: &mut [u16; PLACES]) -> Result<StrayingPolygon, u8> {
+        match self.measure {
+            Chosen::Line => ask_finest(&self.outline, &self.kind, &Line, list),
+            Chosen::Pace => ask_finest(&self.outline, &self.kind, &Pace, list),
+        }
     }
 
     // Whether a list begins with the polygon told, of just its weight, and that is as good as the best.

@@ -1,7 +1,7 @@
 use super::asked::{KEPT, PLACES, answered, ask_cheapest, ask_closest, ask_finest, priced_row};
 use super::outlines::traced;
 use coding::Kind;
-use measure::Chosen;
+use measure::{Line, Pace};
 use std::test::Fail;
 
 // Two moves right and two down.
@@ -10,29 +10,27 @@ const CORNER: [u8; 4] = [0, 0, 6, 6];
 #[test]
 fn by_the_corner(rt: HostRuntime) -> Result<(), Fail> {
     let corner = traced(&CORNER)?;
-    assert!(rt; ask_cheapest(&corner, &Kind::Run, &Chosen::Line, 2, 1).is(&[0, 4], 6, 16, 8));
-    assert!(rt; ask_cheapest(&corner, &Kind::Run, &Chosen::Line, 1, 1).is(&[0, 2, 4], 12, 0, 1));
-    assert!(rt; ask_cheapest(&corner, &Kind::Flat, &Chosen::Line, 1, 1).is(&[0, 2, 4], 44, 0, 1));
-    assert!(rt; ask_cheapest(&corner, &Kind::Run, &Chosen::Pace, 2, 1).is(&[0, 4], 6, 32, 16));
+    assert!(rt; ask_cheapest(&corner, &Kind::Run, &Line, 2, 1).is(&[0, 4], 6, 16, 8));
+    assert!(rt; ask_cheapest(&corner, &Kind::Run, &Line, 1, 1).is(&[0, 2, 4], 12, 0, 1));
+    assert!(rt; ask_cheapest(&corner, &Kind::Flat, &Line, 1, 1).is(&[0, 2, 4], 44, 0, 1));
+    assert!(rt; ask_cheapest(&corner, &Kind::Run, &Pace, 2, 1).is(&[0, 4], 6, 32, 16));
     Ok(())
 }
 
 #[test]
 fn tolerances_are_refused(rt: HostRuntime) -> Result<(), Fail> {
     let corner = traced(&CORNER)?;
-    assert!(rt; ask_cheapest(&corner, &Kind::Run, &Chosen::Line, 1, 0).is_refused_by(4));
-    assert!(rt; ask_cheapest(&corner, &Kind::Run, &Chosen::Line, 1 << 40, 1).is_refused_by(4));
+    assert!(rt; ask_cheapest(&corner, &Kind::Run, &Line, 1, 0).is_refused_by(4));
+    assert!(rt; ask_cheapest(&corner, &Kind::Run, &Line, 1 << 40, 1).is_refused_by(4));
     Ok(())
 }
 
 // A diagonal step has no code by axis.
 #[test]
 fn no_step_one_step_and_a_way_back(rt: HostRuntime) -> Result<(), Fail> {
-    assert!(rt; ask_cheapest(&traced(&[])?, &Kind::Run, &Chosen::Line, 0, 1).is(&[0], 0, 0, 1));
-    assert!(rt; ask_cheapest(&traced(&[7])?, &Kind::Axis, &Chosen::Line, 0, 1).is_refused_by(26));
-    assert!(rt;
-        ask_cheapest(&traced(&[0, 4])?, &Kind::Flat, &Chosen::Line, 1, 1).is(&[0, 2], 22, 1, 1)
-    );
+    assert!(rt; ask_cheapest(&traced(&[])?, &Kind::Run, &Line, 0, 1).is(&[0], 0, 0, 1));
+    assert!(rt; ask_cheapest(&traced(&[7])?, &Kind::Axis, &Line, 0, 1).is_refused_by(26));
+    assert!(rt; ask_cheapest(&traced(&[0, 4])?, &Kind::Flat, &Line, 1, 1).is(&[0, 2], 22, 1, 1));
     Ok(())
 }
 
@@ -40,7 +38,7 @@ fn no_step_one_step_and_a_way_back(rt: HostRuntime) -> Result<(), Fail> {
 #[test]
 fn lowest_of_equal_ways(rt: HostRuntime) -> Result<(), Fail> {
     assert!(rt;
-        ask_cheapest(&traced(&[0; 16])?, &Kind::Run, &Chosen::Line, 0, 1).is(&[0, 1, 16], 13, 0, 1)
+        ask_cheapest(&traced(&[0; 16])?, &Kind::Run, &Line, 0, 1).is(&[0, 1, 16], 13, 0, 1)
     );
     Ok(())
 }
@@ -49,7 +47,7 @@ fn lowest_of_equal_ways(rt: HostRuntime) -> Result<(), Fail> {
 #[test]
 fn lowest_of_equal_fractions(rt: HostRuntime) -> Result<(), Fail> {
     let mut list = [KEPT; PLACES];
-    let answer = ask_finest(&traced(&CORNER)?, &Kind::Run, &Chosen::Line, &mut list);
+    let answer = ask_finest(&traced(&CORNER)?, &Kind::Run, &Line, &mut list);
     assert!(rt; answer.is_ok() && list.starts_with(&[0, 2, 4, KEPT]));
     Ok(())
 }
@@ -58,11 +56,11 @@ fn lowest_of_equal_fractions(rt: HostRuntime) -> Result<(), Fail> {
 #[test]
 fn between_whole_tolerances(rt: HostRuntime) -> Result<(), Fail> {
     let hook = traced(&[0, 0, 2, 4])?;
-    let at_0 = ask_cheapest(&hook, &Kind::Run, &Chosen::Line, 0, 1);
-    let at_1 = ask_cheapest(&hook, &Kind::Run, &Chosen::Line, 1, 1);
+    let at_0 = ask_cheapest(&hook, &Kind::Run, &Line, 0, 1);
+    let at_1 = ask_cheapest(&hook, &Kind::Run, &Line, 1, 1);
     assert!(rt; at_0.is(&[0, 2, 3, 4], 16, 0, 1) && at_1.is(&[0, 1, 4], 10, 1, 1));
-    let between = ask_closest(&hook, &Kind::Run, &Chosen::Line, 11);
-    let above = ask_closest(&hook, &Kind::Run, &Chosen::Line, 15);
+    let between = ask_closest(&hook, &Kind::Run, &Line, 11);
+    let above = ask_closest(&hook, &Kind::Run, &Line, 15);
     assert!(rt; between.is(&[0, 2, 4], 11, 1, 2) && above.is(&[0, 2, 4], 11, 1, 2));
     Ok(())
 }
@@ -71,10 +69,10 @@ fn between_whole_tolerances(rt: HostRuntime) -> Result<(), Fail> {
 #[test]
 fn between_whole_tolerances_by_flat(rt: HostRuntime) -> Result<(), Fail> {
     let hook = traced(&[0, 0, 2, 5])?;
-    assert!(rt; ask_closest(&hook, &Kind::Flat, &Chosen::Line, 66).is(&[0, 2, 3, 4], 66, 0, 1));
-    assert!(rt; ask_closest(&hook, &Kind::Flat, &Chosen::Line, 65).is(&[0, 3, 4], 44, 4, 5));
-    assert!(rt; ask_closest(&hook, &Kind::Flat, &Chosen::Line, 43).is(&[0, 4], 22, 1, 1));
-    assert!(rt; ask_closest(&hook, &Kind::Flat, &Chosen::Line, 21).is_refused_by(27));
+    assert!(rt; ask_closest(&hook, &Kind::Flat, &Line, 66).is(&[0, 2, 3, 4], 66, 0, 1));
+    assert!(rt; ask_closest(&hook, &Kind::Flat, &Line, 65).is(&[0, 3, 4], 44, 4, 5));
+    assert!(rt; ask_closest(&hook, &Kind::Flat, &Line, 43).is(&[0, 4], 22, 1, 1));
+    assert!(rt; ask_closest(&hook, &Kind::Flat, &Line, 21).is_refused_by(27));
     Ok(())
 }
 
