@@ -9,8 +9,7 @@ use Rattle.graph.specs.Paths.{ReadBack}
 use Rattle.graph.specs.Paths.ReadBack.{first, next}
 use Rattle.graph.specs.Rows.{offer, NoOffer, Least, first_row, unreached_row, LaterRow, RowRule, Table, Filled}
 use Rattle.graph.specs.declared.Row.{Row}
-use Rattle.search.proofs.Bests.{front_back}
-use Rattle.search.specs.PointLaws.{shallow_points}
+use Rattle.search.proofs.Bests.{shallow_points, front_back}
 use Rattle.search.specs.Rules.{reached_cost, last_cost}
 use Rattle.std.proofs.iter.runs.Lists.{none-some}
 use Rattle.std.proofs.lemmas.List.{length_push, length-take-le}

@@ -48,13 +48,12 @@ pub trait Graph {
     // The most edges that lead to a place.
     ghost depth: { Self → ℕ → ℕ };
 
+    // What holds of every graph is promised with the number, where the fields of a graph are known to fit their types.
     fn places(&self) -> usize
-        ensures { result ≡ places self.now };
+        ensures number { result ≡ places self.now }
+        ensures few { places self.now ≤ 2 ^ 16 }
+        ensures shallow { Shallow (places self.now) (edge self.now) (depth self.now) };
 
     fn edge(&self, from: usize, to: usize) -> Option<Self::Weight>
         ensures { result ≡ edge self.now from to };
-
-    ghost few: { (g : Self) → places g ≤ 2 ^ 16 };
-
-    ghost shallow: { (g : Self) → Shallow (places g) (edge g) (depth g) };
 }

@@ -1,6 +1,6 @@
 // The least cost of each place, from the lowest place on.
-ghost use Rattle.std.specs.Prelude.{◌≡◌, ◌<◌, length, Some, is_ok};
-ghost use Rattle.graph.specs.Rows.{from_row, offer, RowRule, Table, Filled};
+ghost use Rattle.std.specs.Prelude.{◌≡◌, ◌^◌, ◌<◌, ◌≤◌, length, Some, is_ok};
+ghost use Rattle.graph.specs.Rows.{from_row, offer, RowRule, Shallow, Table, Filled};
 ghost use Rattle.graph.specs.Steps.{better, Best};
 
 use crate::{Graph, Row};
@@ -41,6 +41,8 @@ fn offered<G: Graph>(graph: &G, row: &Row<G::Cost>, from: usize, to: usize) -> O
 // The lowest place that offers the least to the place after these rows.
 fn best<G: Graph>(graph: &G, lower: &[Row<G::Cost>]) -> Option<Candidate<G::Cost>>
     requires place { length lower.now < G.Graph.places graph.now }
+    requires few { G.Graph.places graph.now ≤ 2 ^ 16 }
+    requires shallow { Shallow (G.Graph.places graph.now) (G.Graph.edge graph.now) (G.Graph.depth graph.now) }
     requires table { Table G.Cost.Cost.cost (G.Graph.edge graph.now) lower.now }
     ensures { Best G.Cost.Cost.cost (λ i. offer G.Cost.Cost.cost (G.Graph.edge graph.now) lower.now i (length lower.now)) (length lower.now) result }
 {
@@ -61,6 +63,8 @@ fn best<G: Graph>(graph: &G, lower: &[Row<G::Cost>]) -> Option<Candidate<G::Cost
 // The row of the place after these rows.
 fn row<G: Graph>(graph: &G, lower: &[Row<G::Cost>]) -> Row<G::Cost>
     requires place { length lower.now < G.Graph.places graph.now }
+    requires few { G.Graph.places graph.now ≤ 2 ^ 16 }
+    requires shallow { Shallow (G.Graph.places graph.now) (G.Graph.edge graph.now) (G.Graph.depth graph.now) }
     requires table { Table G.Cost.Cost.cost (G.Graph.edge graph.now) lower.now }
     ensures { RowRule G.Cost.Cost.cost (G.Graph.edge graph.now) lower.now (length lower.now) result }
 {

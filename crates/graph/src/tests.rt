@@ -1,6 +1,5 @@
 // Four places whose weights are written out.
 ghost use Rattle.std.specs.Prelude.{◌+◌, ◌*◌, ◌&&◌, if◌then◌else◌, None, nat_lt, slice_index_or};
-ghost use Rattle.std.proofs.Common.{rules};
 
 use crate::{Graph, Row, fill, read_back};
 use cost::bits::Bits;
@@ -33,10 +32,6 @@ impl Graph for Four {
             None
         }
     }
-
-    ghost few = { λ g. Prim.search rules };
-
-    ghost shallow = { λ g. Prim.search rules };
 }
 
 const JUNK: Row<Bits> = Row {
@@ -81,4 +76,37 @@ fn unreached(rt: HostRuntime) {
     assert_eq!(rt; read_back(&rows, 1, &mut list), None);
     assert_eq!(rt; read_back(&rows, 3, &mut list), None);
     assert_eq!(rt; list, [8, 8]);
+}
+
+// Places without edges. That they are not too many follows from the width of the field alone.
+struct Apart {
+    count: u16,
+}
+
+impl Graph for Apart {
+    type Weight = Price;
+
+    type Cost = Bits;
+
+    ghost places = { λ g. g.count };
+
+    ghost edge = { λ g i j. None };
+
+    ghost depth = { λ g j. 0 };
+
+    fn places(&self) -> usize {
+        self.count as usize
+    }
+
+    fn edge(&self, _from: usize, _to: usize) -> Option<Price> {
+        None
+    }
+}
+
+#[test]
+fn only_the_start_of_places_apart(rt: HostRuntime) {
+    let mut rows = [JUNK; 3];
+    assert!(rt; fill(&Apart { count: 3 }, &mut rows).is_ok());
+    assert!(rt; rows[0].reached && !rows[1].reached && !rows[2].reached);
+    assert!(rt; fill(&Apart { count: 4 }, &mut rows).is_err());
 }

@@ -19,9 +19,12 @@ use Rattle.weighing.specs.Weights.{polygon_cost}
 use Rattle.search.proofs.Polygons.{rising_short}
 use Rattle.search.proofs.Prices.{usable_path, path_usable}
 use Rattle.search.specs.Best.{NoneUsable, Best, LeastCost, BestAnswered}
-use Rattle.search.specs.PointLaws.{shallow_points}
 use Rattle.search.specs.Rules.{reached_cost, last_cost, ReadOut, Answered}
 use Rattle.search.specs.declared.Found.{Found}
+
+-- fewer than 257 places, in which only higher ones follow a place
+pub shallow_points : {W : Type 0} (n : ℕ) (weight : ℕ → ℕ → Option W) → n ≤ 256 → Shallow n weight (λ j. j)
+shallow_points n weight few = record { deeper = λ i j w l inside e. omega arith; most = λ j inside. omega arith }
 
 module _ {C : Type 0} where
   pub reached_made : (o : Option (Row C)) (row : Row C) → o ≡ Some row → row.reached ≡ true → reached_cost o ≡ Some row.cost

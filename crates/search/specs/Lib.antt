@@ -1,4 +1,3 @@
 pub mod Best
 pub mod Cheapest
 pub mod Rules
-pub mod PointLaws

@@ -2,7 +2,6 @@
 ghost use Rattle.std.specs.Prelude.{◌≡◌, ◌<◌, length, MatchResult};
 ghost use Rattle.outline.specs.Plain.{plain};
 ghost use Rattle.search.specs.Best.{LeastCost};
-ghost use Rattle.search.specs.PointLaws.{few_in_outline, shallow_in_outline};
 ghost use Rattle.search.specs.Rules.{room, RowsFilled};
 
 use graph::{Graph, Row, fill};
@@ -35,10 +34,6 @@ impl<'a, 'b, W: Weigher> Graph for Edges<'a, 'b, W> {
     fn edge(&self, from: usize, to: usize) -> Option<W::Weight> {
         self.weigher.weight(self.outline, from, to)
     }
-
-    ghost few = { λ g. few_in_outline g.outline.now };
-
-    ghost shallow = { λ g. shallow_in_outline g.outline.now (W.Weigher.weight g.weigher.now (plain g.outline.now).points) };
 }
 
 // A search wants a row and a list place for each point.

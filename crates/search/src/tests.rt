@@ -60,8 +60,6 @@ impl Weigher for Spans {
             None
         }
     }
-
-    ghost edges = { λ s ps i j out. Prim.search rules };
 }
 
 const JUNK: Row<Longest> = Row {

@@ -15,7 +15,7 @@ use Rattle.measure.specs.Fractions.{above}
 use Rattle.measure.specs.Measures.{Strays}
 use Rattle.weighing.specs.Edges.{displacement, edge_price}
 use Rattle.weighing.specs.Weighers.{priced_weight, straying_weight}
-use Rattle.weighing.specs.EdgeLaws.{no_price, straying_edges}
+use Rattle.weighing.proofs.EdgeLaws.{no_price, straying_edges}
 
 -- the price of an edge is that of its displacement
 pub edge_price_at : (codes : Table) (ps : List Point) (i j : ℕ) → i < j → j < length ps → edge_price codes ps i j ≡ price_of (codes (displacement ps i j).0 (displacement ps i j).1)

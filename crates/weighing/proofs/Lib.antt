@@ -1,3 +1,4 @@
 pub mod Costs
+pub mod EdgeLaws
 pub mod EdgeWeights
 pub mod Usable

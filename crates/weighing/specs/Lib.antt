@@ -3,4 +3,3 @@ pub mod Edges
 pub mod Weighers
 pub mod Weights
 pub mod DeviationLaws
-pub mod EdgeLaws

@@ -1,7 +1,6 @@
 ghost use Rattle.std.specs.Prelude.{◌≡◌, Some, None, MatchResult};
 ghost use Rattle.measure.specs.Fractions.{fraction};
 ghost use Rattle.outline.specs.declared.refusal.Refusal.TheVariants.{Tolerance};
-ghost use Rattle.weighing.specs.EdgeLaws.{priced_edges};
 ghost use Rattle.weighing.specs.Weighers.{priced_weight};
 
 use super::deviation::Deviation;
@@ -59,6 +58,4 @@ impl<'a, C: Coder, M: Measure> Weigher for Priced<'a, C, M> {
         let deviation = deviation_within(self.measure, outline, i, j, self.tolerance)?;
         Some((price, deviation))
     }
-
-    ghost edges = { λ s. priced_edges (C.Coder.table s.coder.now) (M.Measure.strays s.measure.now) s.tolerance };
 }

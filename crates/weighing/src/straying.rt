@@ -1,5 +1,4 @@
 ghost use Rattle.std.specs.Prelude.{◌≡◌};
-ghost use Rattle.weighing.specs.EdgeLaws.{straying_edges};
 ghost use Rattle.weighing.specs.Weighers.{straying_weight};
 
 use super::deviation::Deviation;
@@ -35,6 +34,4 @@ impl<'a, C: Coder, M: Measure> Weigher for Straying<'a, C, M> {
         let _price = edge_price(self.coder, outline, i, j)?;
         deviation(self.measure, outline, i, j)
     }
-
-    ghost edges = { λ s. straying_edges (C.Coder.table s.coder.now) (M.Measure.strays s.measure.now) };
 }

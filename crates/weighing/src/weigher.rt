@@ -14,9 +14,8 @@ pub trait Weigher {
 
     ghost weight: { Self → List PointOf → ℕ → ℕ → Option Self.Weight };
 
-    fn weight(&self, outline: &Outline, i: usize, j: usize) -> Option<Self::Weight>
-        ensures { result ≡ weight self.now (plain outline.now).points i j };
-
     // Numbers other than i < j below the number of points get none.
-    ghost edges: { (w : Self) → EdgesOnly (weight w) };
+    fn weight(&self, outline: &Outline, i: usize, j: usize) -> Option<Self::Weight>
+        ensures value { result ≡ weight self.now (plain outline.now).points i j }
+        ensures edges { EdgesOnly (weight self.now) };
 }

@@ -15,7 +15,7 @@ loop-from-preserved g c =
     elim c.match-offered.branch [
       | in-Some w ↦
           offer_more k edge rows from c.loop-from-test.true row read c.loop-from.best c.match-offered.best c.loop-from.invariant
-          (g.G.Graph.places graph) (g.G.Graph.depth graph) (g.met.G.Graph.shallow graph) g.met.G.Cost.Cost.laws c.requires.place c.requires.table
+          (g.G.Graph.places graph) (g.G.Graph.depth graph) c.requires.shallow g.met.G.Cost.Cost.laws c.requires.place c.requires.table
           _ w.better.result refl w.in-Some.ensures w.better.ensures w.best-is
       | in_default w ↦ offer_skips k edge rows from c.loop-from-test.true row read c.loop-from.best c.match-offered.best c.loop-from.invariant w.in_default.ensures w.best-is
     ]

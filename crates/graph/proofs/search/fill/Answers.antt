@@ -18,7 +18,7 @@ loop-to-preserved g c =
 
 pub returns : goal.returns
 returns g c =
-    let e = c.places-places.ensures in
+    let e = c.places-places.ensures.number in
     let rows = c.loop-to.rows in (
       omega arith,
       subst (λ n. Table g.G.Cost.Cost.cost (g.G.Graph.edge c.args.graph.now) (take n rows)) (omega arith) c.loop-to.invariant.1,

@@ -1,4 +1,4 @@
--- The law of the two weighers: numbers that are no edge get no weight.
+-- Numbers that are no edge get no weight.
 use Rattle.std.proofs.Common.{◌≡◌, ℕ, false, ◌&&◌, ltb, List, length, None, Option, ap}
 use Rattle.std.proofs.lemmas.Bool.{cond-false}
 use Rattle.std.specs.Option.{option_and, option_flatten, option_map, option_zip}
