@@ -3,7 +3,6 @@ ghost use Rattle.coding.specs.Directions.{taken as taken_by, Along, Leads, along
 ghost use Rattle.outline.specs.Directions.{direction_number};
 
 use outline::Direction;
-use std::cmp::Ordering;
 
 // A length times the move of a direction.
 fn taken(towards: Direction, length: u16) -> (i32, i32)
@@ -27,15 +26,26 @@ pub(crate) fn displacement(towards: Direction, length: u16) -> (i16, i16)
 fn heading(dx: i16, dy: i16) -> Direction
     ensures { (d l : ℕ) → Along dx dy d l → d ≡ direction_number result }
 {
-    match (dx.cmp(&0), dy.cmp(&0)) {
-        (Ordering::Greater, Ordering::Equal) => Direction::East,
-        (Ordering::Greater, Ordering::Less) => Direction::Northeast,
-        (Ordering::Equal, Ordering::Less | Ordering::Equal) => Direction::North,
-        (Ordering::Less, Ordering::Less) => Direction::Northwest,
-        (Ordering::Less, Ordering::Equal) => Direction::West,
-        (Ordering::Less, Ordering::Greater) => Direction::Southwest,
-        (Ordering::Equal, Ordering::Greater) => Direction::South,
-        (Ordering::Greater, Ordering::Greater) => Direction::Southeast,
+    if dx > 0 {
+        if dy > 0 {
+            Direction::Southeast
+        } else if dy < 0 {
+            Direction::Northeast
+        } else {
+            Direction::East
+        }
+    } else if dx < 0 {
+        if dy > 0 {
+            Direction::Southwest
+        } else if dy < 0 {
+            Direction::Northwest
+        } else {
+            Direction::West
+        }
+    } else if dy > 0 {
+        Direction::South
+    } else {
+        Direction::North
     }
 }
 

@@ -23,7 +23,9 @@ impl Direction {
     pub fn step(self) -> (i16, i16)
         ensures { result ≡ move (direction_number self) }
     {
-        MOVES[self as usize]
+        // Borrowed, the table stays where the program has it; indexed itself, it would be written out anew at each call.
+        let moves = &MOVES;
+        moves[self as usize]
     }
 }
 

@@ -11,7 +11,9 @@ use outline::{LONGEST_SIDE, Point};
 fn next_vertex<C: Coder>(coder: &C, row: BitRow<'_>, from: Point) -> Result<(Point, u8), CoderFault>
     ensures { Stepped (C.Coder.table coder.now) (row_bits row.entry) from result }
 {
-    let (dx, dy, length) = coder.read(row).ok_or(CoderFault::NoCode)?;
+    let Some((dx, dy, length)) = coder.read(row) else {
+        return Err(CoderFault::NoCode);
+    };
     let to = from
         .displaced(dx, dy, LONGEST_SIDE, LONGEST_SIDE)
         .ok_or(CoderFault::Outside)?;
