@@ -15,9 +15,9 @@ use Rattle.scripts.specs.declared.reply.Reply.{Reply}
 use Rattle.scripts.specs.declared.reply.Reply.TheVariants.{Accepted, Refused, Priced, Straying, NoCall}
 use Rattle.scripts.specs.declared.reply.Vertices.{Vertices}
 
--- A refusal is told.
+-- A refusal is told by its number.
 abbrev pub told_refusal : Reason → Reply
-told_refusal e = Refused e
+told_refusal e = Refused (number e)
 
 -- What is replied to an accepted call, or else its refusal.
 abbrev pub replied : Result Reply Reason → Reply
@@ -64,10 +64,10 @@ reply_of tell list (Cheapest r) = priced_reply list r
 reply_of tell list (Finest r) = straying_reply list r
 reply_of tell list (Closest r) = priced_reply list r
 
--- The text of a reply, but for those that tell a polygon: a refusal is told by its number.
+-- The text of a reply, but for those that tell a polygon.
 abbrev pub reply_text : Reply → Option (List ℕ)
 reply_text Accepted = Some (codes "accepted")
-reply_text (Refused e) = Some (codes "refused " ++ decimal (number e))
+reply_text (Refused number) = Some (codes "refused " ++ decimal number)
 reply_text (Priced vertices bits deviation) = None
 reply_text (Straying vertices deviation) = None
 reply_text (NoCall line) = Some (codes "line " ++ (decimal line ++ codes " is no call"))

@@ -1,5 +1,5 @@
 ghost use Rattle.std.specs.Prelude.{◌≡◌};
-ghost use Rattle.scripts.specs.Replies.{vertices_of};
+ghost use Rattle.scripts.specs.Replies.{told_refusal, vertices_of};
 ghost use Rattle.scripts.specs.declared.reply.Reply.TheVariants.{Priced as told_priced, Straying as told_straying};
 
 use measure::Fraction;
@@ -28,7 +28,9 @@ impl Vertices {
 #[derive(Clone, Copy)]
 pub enum Reply {
     Accepted,
-    Refused(Refusal),
+    Refused {
+        number: u8,
+    },
     Priced {
         vertices: Vertices,
         bits: u16,
@@ -44,6 +46,14 @@ pub enum Reply {
 }
 
 impl Reply {
+    pub(crate) fn refused(refusal: Refusal) -> Reply
+        ensures { result ≡ told_refusal refusal }
+    {
+        Reply::Refused {
+            number: refusal.number(),
+        }
+    }
+
     pub(crate) fn priced(list: &[u16], count: usize, bits: u16, deviation: Fraction) -> Reply
         ensures { result ≡ told_priced (vertices_of list.now count) bits deviation }
     {

@@ -44,7 +44,7 @@ impl fmt::Display for Reply {
     fn fmt<W: fmt::Write>(&self, f: &mut fmt::Formatter<W>) -> fmt::Result {
         match *self {
             Reply::Accepted => f.write_str("accepted"),
-            Reply::Refused(refusal) => write!(f, "refused {}", refusal.number()),
+            Reply::Refused { number } => write!(f, "refused {number}"),
             Reply::Priced {
                 vertices,
                 bits,

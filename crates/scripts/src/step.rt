@@ -1,3 +1,4 @@
+ghost use Rattle.std.specs.Prelude.{◌≡◌};
 ghost use Rattle.coding.specs.Kinds.{kind_table};
 ghost use Rattle.measure.specs.Choice.{chosen_strays};
 ghost use Rattle.measure.specs.Fractions.{fraction};
@@ -18,6 +19,12 @@ use outline::{Outline, Refusal};
 use replay::{Call, make_call};
 use weighing::{Priced, Straying, Weigher};
 
+fn or_refused(answer: Result<Reply, Refusal>) -> Reply
+    ensures { result ≡ replied answer }
+{
+    answer.unwrap_or_else(|refusal| Reply::refused(refusal))
+}
+
 impl Session {
     // A new outline, flat codes, the measure line, and memory for a full outline.
     pub fn new() -> Session
@@ -32,23 +39,23 @@ impl Session {
         }
     }
 
-    fn set_kind(&mut self, number: u16) -> Result<Reply, Refusal>
-        ensures { KindSet self.old number (replied result) self.new }
+    fn set_kind(&mut self, number: u16) -> Reply
+        ensures { KindSet self.old number result self.new }
     {
-        self.kind = Kind::try_from(number)?;
-        Ok(Reply::Accepted)
+        match Kind::try_from(number) {
+            Ok(kind) => {
+                self.kind = kind;
+                Reply::Accepted
+            }
+            Err(refusal) => Reply::refused(refusal),
+        }
     }
 
     // Makes a call with the session's codes, measure and lent memory, and with a weigher for least.
-    fn ask<W: Weigher>(
-        &mut self,
-        weigher: &W,
-        call: Call,
-        own: &mut [Row<W::Cost>; 256],
-    ) -> Result<Reply, Refusal>
+    fn ask<W: Weigher>(&mut self, weigher: &W, call: Call, own: &mut [Row<W::Cost>; 256]) -> Reply
     where
         W::Cost: Told,
-        ensures { Asked (tools W.Cost.Cost.cost (W.Weigher.weight weigher.now) (kind_table self.old.kind) (chosen_strays self.old.measure)) W.Cost.Told.tell self.old call (replied result) self.new }
+        ensures { Asked (tools W.Cost.Cost.cost (W.Weigher.weight weigher.now) (kind_table self.old.kind) (chosen_strays self.old.measure)) W.Cost.Told.tell self.old call result self.new }
     {
         let rows = usize::from(self.rows.count());
         let mut list = [0; 256];
@@ -64,12 +71,12 @@ impl Session {
             &mut [Row::unreached(); 256][..rows],
             lent,
         );
-        reply(answer, lent)
+        or_refused(reply(answer, lent))
     }
 
     // Makes a call; least with the straying weigher.
-    fn call(&mut self, call: Call) -> Result<Reply, Refusal>
-        ensures { Asked (straying_tools self.old) told_straying self.old call (replied result) self.new }
+    fn call(&mut self, call: Call) -> Reply
+        ensures { Asked (straying_tools self.old) told_straying self.old call result self.new }
     {
         let (kind, measure) = (self.kind, self.measure);
         self.ask(
@@ -80,30 +87,33 @@ impl Session {
     }
 
     // Makes least with the priced weigher.
-    fn least_priced(&mut self, top: u64, bottom: u64) -> Result<Reply, Refusal>
-        ensures { PricedAsked self.old (fraction top bottom) (replied result) self.new }
+    fn least_priced(&mut self, top: u64, bottom: u64) -> Reply
+        ensures { PricedAsked self.old (fraction top bottom) result self.new }
     {
         let (kind, measure) = (self.kind, self.measure);
-        let weigher = Priced::new(&kind, &measure, top, bottom)?;
-        self.ask(&weigher, Call::Least, &mut [Row::unreached(); 256])
+        match Priced::new(&kind, &measure, top, bottom) {
+            Ok(weigher) => self.ask(&weigher, Call::Least, &mut [Row::unreached(); 256]),
+            Err(refusal) => Reply::refused(refusal),
+        }
     }
 
-    fn follow(&mut self, command: Command) -> Result<Reply, Refusal>
-        ensures { Answers self.old command (replied result) self.new }
+    // Makes one command. A reply is long, and each result that it goes through would copy it.
+    pub fn step(&mut self, command: Command) -> Reply
+        ensures { Answers self.old command result self.new }
     {
         match command {
             Command::Kind { number } => self.set_kind(number),
             Command::Measure { chosen } => {
                 self.measure = chosen;
-                Ok(Reply::Accepted)
+                Reply::Accepted
             }
             Command::Rows { places } => {
                 self.rows = places;
-                Ok(Reply::Accepted)
+                Reply::Accepted
             }
             Command::List { places } => {
                 self.list = places;
-                Ok(Reply::Accepted)
+                Reply::Accepted
             }
             Command::Open {
                 width,
@@ -124,14 +134,6 @@ impl Session {
             Command::Finest => self.call(Call::Finest),
             Command::Closest { budget } => self.call(Call::Closest { budget }),
         }
-    }
-
-    // Makes one command.
-    pub fn step(&mut self, command: Command) -> Reply
-        ensures { Answers self.old command result self.new }
-    {
-        self.follow(command)
-            .unwrap_or_else(|refusal| Reply::Refused(refusal))
     }
 
     // Answers a line of a script, of which it is told the number.
