@@ -111,3 +111,14 @@ fn words_are_read(rt: HostRuntime) {
     assert!(rt; Order::within_tolerance("2", "pace", "2", "1").is_some());
     assert!(rt; Order::within_tolerance("2", "pace", "2", "1.5").is_none());
 }
+
+// An error that main hands on is printed by its Debug, which says what its Display does.
+#[test]
+fn failures_are_shown_by_their_text(rt: HostRuntime) -> Result<(), Fail> {
+    let Err(failure) = encode(&ENDS, by_line(2, TWO), &mut []) else {
+        return Err(Fail::new("encoded"));
+    };
+    let told = format!(in rt.alloc(); "{failure:?}")?;
+    assert!(rt; told.as_str() == "refused 7 byte 2");
+    Ok(())
+}

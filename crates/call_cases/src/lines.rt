@@ -1,4 +1,4 @@
-use scripts::parse_line;
+use scripts::{Reply, parse_line};
 use std::test::Fail;
 
 const CALLS: [&str; 13] = [
@@ -38,4 +38,11 @@ fn other_lines_are_no_call(rt: HostRuntime) {
     assert!(rt; parse_line(b"finest ").is_none());
     assert!(rt; parse_line(b"retract\r").is_none());
     assert!(rt; parse_line(&[0xff]).is_none());
+}
+
+#[test]
+fn a_reply_tells_any_number(rt: HostRuntime) -> Result<(), Fail> {
+    let text = format!(in rt.alloc(); "{}", Reply::Refused { number: 200 })?;
+    assert!(rt; text.as_str() == "refused 200");
+    Ok(())
 }

@@ -6,7 +6,7 @@ use outline::Refusal;
 use records::Fault;
 
 // Why nothing is answered: what is wrong with the record and where, or a refusal without a place.
-#[derive(Clone, Copy, Debug)]
+#[derive(Clone, Copy)]
 pub enum Failure {
     Record(Fault),
     Refused(Refusal),

@@ -25,6 +25,13 @@ impl fmt::Display for Failure {
     }
 }
 
+// The text of its Display: a program whose main hands an error on prints this one.
+impl fmt::Debug for Failure {
+    fn fmt<W: fmt::Write>(&self, f: &mut fmt::Formatter<W>) -> fmt::Result {
+        fmt::Display::fmt(self, f)
+    }
+}
+
 impl Error for Failure {}
 
 impl fmt::Display for Decoded {

@@ -1,4 +1,5 @@
 ghost use Rattle.std.specs.Prelude.{◌≡◌, ◌-◌, ◌^◌};
+ghost use Rattle.std.specs.Option.{option_zip};
 ghost use Rattle.exchange.specs.Words.{measure_in, number_in, tolerance_in, budget_in, order_in};
 
 use super::order::Order;
@@ -46,14 +47,23 @@ fn tolerance(top: &str, bottom: &str) -> Option<Goal>
     Some(Goal::Tolerance { top, bottom })
 }
 
+// The number of a kind and the measure that two words ask for. They are read before the words of a goal, so that a long one
+// costs nothing where these are wrong.
+fn kind_and_measure(kind: &str, measure: &str) -> Option<(u16, Chosen)>
+    ensures { result ≡ option_zip (number_in (2 ^ 16 - 1) kind.now) (measure_in measure.now) }
+{
+    let kind = short_number(kind)?;
+    let measure = measure_named(measure)?;
+    Some((kind, measure))
+}
+
 impl Order {
-    // The order of the words of a kind and a measure, and of a goal, where there are all three.
-    fn of(kind: &str, measure: &str, goal: Option<Goal>) -> Option<Order>
-        ensures { result ≡ order_in kind.now measure.now goal }
+    // Cheapest within a tolerance.
+    pub fn within_tolerance(kind: &str, measure: &str, top: &str, bottom: &str) -> Option<Order>
+        ensures { result ≡ order_in kind.now measure.now (tolerance_in top.now bottom.now) }
     {
-        let kind = short_number(kind)?;
-        let measure = measure_named(measure)?;
-        let goal = goal?;
+        let (kind, measure) = kind_and_measure(kind, measure)?;
+        let goal = tolerance(top, bottom)?;
         Some(Order {
             kind,
             measure,
@@ -61,21 +71,16 @@ impl Order {
         })
     }
 
-    // Cheapest within a tolerance.
-    pub fn within_tolerance(kind: &str, measure: &str, top: &str, bottom: &str) -> Option<Order>
-        ensures { result ≡ order_in kind.now measure.now (tolerance_in top.now bottom.now) }
-    {
-        Order::of(kind, measure, tolerance(top, bottom))
-    }
-
     // Closest within a budget of bits.
     pub fn within_budget(kind: &str, measure: &str, bits: &str) -> Option<Order>
         ensures { result ≡ order_in kind.now measure.now (budget_in bits.now) }
     {
-        Order::of(
+        let (kind, measure) = kind_and_measure(kind, measure)?;
+        let goal = Goal::Budget(short_number(bits)?);
+        Some(Order {
             kind,
             measure,
-            short_number(bits).map(|bits| Goal::Budget(bits)),
-        )
+            goal,
+        })
     }
 }
