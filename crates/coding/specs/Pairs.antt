@@ -208,7 +208,7 @@ module _ (t u : Table) (first : Codes t) (second : Codes u) (row rest : List Boo
   pub read_unmarked : None ≡ marker (pair t u (to_z w16 (of_z w16 x)) (to_z w16 (of_z w16 y))) → Reads (pair t u) row None
   read_unmarked is = pair_other t u first second row m x y n e read_past (λ k mark. none-some (m, k) (marked None is ∙ sym mark))
 
-  read_other : (b : Bool) (k : ℕ) → Some (b, k) ≡ marker (pair t u (to_z w16 (of_z w16 x)) (to_z w16 (of_z w16 y))) → beq b m ≡ false → Reads (pair t u) row None
+  pub read_other : (b : Bool) (k : ℕ) → Some (b, k) ≡ marker (pair t u (to_z w16 (of_z w16 x)) (to_z w16 (of_z w16 y))) → beq b m ≡ false → Reads (pair t u) row None
   read_other b k is apart =
       pair_other t u first second row m x y n e read_past
       (λ j mark. let s : Some (b, k) ≡ Some (m, j) = marked (Some (b, k)) is ∙ sym mark in unlike b m apart (let p : ◌≡◌ {A = Bool × ℕ} (b, k) (m, j) = cc in ap (λ (q : Bool × ℕ). q.0) p))
@@ -219,7 +219,7 @@ module _ (t u : Table) (first : Codes t) (second : Codes u) (row rest : List Boo
       unlike false true f p = false≢true p
       unlike false false f p = true≢false f
 
-  read_same : (b : Bool) (k : ℕ) → Some (b, k) ≡ marker (pair t u (to_z w16 (of_z w16 x)) (to_z w16 (of_z w16 y))) → beq b m ≡ true → Reads (pair t u) row (Some (to_z w16 (of_z w16 x), to_z w16 (of_z w16 y), n + 1))
+  pub read_same : (b : Bool) (k : ℕ) → Some (b, k) ≡ marker (pair t u (to_z w16 (of_z w16 x)) (to_z w16 (of_z w16 y))) → beq b m ≡ true → Reads (pair t u) row (Some (to_z w16 (of_z w16 x), to_z w16 (of_z w16 y), n + 1))
   read_same b k is like =
       let mark : Some (m, k) ≡ marker (pair t u x y) = ap (λ c. Some (c, k)) (sym (alike b m like)) ∙ marked (Some (b, k)) is in
       subst₂ (λ (a c : ℤ). Reads (pair t u) row (Some (a, c, n + 1))) (sym same_x) (sym same_y) (pair_some t u first second row m x y n k e read_past mark)

@@ -37,7 +37,7 @@ class_bounds l some short =
     (cases_lt l 2)
 
 -- the leading zeros say the class
-class_zeros : (l : ℕ) → 1 ≤ l → l ≤ 15 → 15 - count_leading_zeros 16 l ≡ class l
+pub class_zeros : (l : ℕ) → 1 ≤ l → l ≤ 15 → 15 - count_leading_zeros 16 l ≡ class l
 class_zeros l some short =
     let top = leading_top 16 l (omega arith) (omega arith) in
     let j = top.0 in
